@@ -1,0 +1,14 @@
+use Rattle.definitions.proofs.Singles.{some-nearest, one-nearest}
+use Rattle.definitions.proofs.Sole.{one-answer, one-turn, sole}
+use Rattle.definitions.proofs.Total.{some-answer, some-turn, some-run}
+use Rattle.definitions.proofs.Whole.{shared}
+use Rattle.definitions.proofs.reader_stands.Needs as need
+
+pub returns : need.returns
+returns c = record {
+  nearest = λ c k. let (a, x) = some-nearest c k in (a, x, λ b y. one-nearest c k b a y x);
+  answer = λ bs e o rest x p at. let (a, y) = some-answer x p at in (a, y, λ b z. one-answer z y);
+  turn = λ s call. let (a, p, t, x) = some-turn s call in (a, p, t, x, λ b q u y. one-turn y x);
+  run = λ s calls. let (a, p, t, x) = some-run calls s in (a, p, t, x, sole x);
+  shared = λ s calls a p t x. shared x;
+}

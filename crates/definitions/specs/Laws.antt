@@ -1,0 +1,63 @@
+-- What is proved of the definitions: each has exactly one result. Assumes nothing.
+use mathlib.Core.List.{List}
+use mathlib.Core.Logic.{_⊎_}
+use mathlib.Core.Path.{_≡_}
+use Prim.Native.Nat.{ℕ, _≤_}
+use lib.IntN.{ℤ}
+use lib.ListN.{length}
+use Rattle.definitions.specs.Sources.{Ending, Meaning}
+use Rattle.definitions.specs.Gaps.{Past-gap}
+use Rattle.definitions.specs.Numbers.{Reading, Reads}
+use Rattle.definitions.specs.Grammar.{Text, Shown, Begins, One-outcome}
+use Rattle.definitions.specs.LiteralText.{Decodes, Ends-in-backslash}
+use Rattle.definitions.specs.Singles.{Nearest}
+use Rattle.definitions.specs.PlainReader.{Parser, Call, Answer, Judges, Piece, Parted, Turn}
+use Rattle.definitions.specs.SharedRun.{Run, Shared}
+
+-- the bytes to come are a gap and what stands after it in one way
+abbrev pub One-gap : Type 0
+One-gap = (s : Meaning) → (g : List ℕ) × (bs : List ℕ) × Parted s g bs × ((h cs : List ℕ) → Parted s h cs → (h ≡ g) × (cs ≡ bs))
+
+-- a run has one reading
+abbrev pub One-reading : Type 0
+One-reading = (u : List ℕ) → (r : Reading) × Reads u r × ((q : Reading) → Reads u q → q ≡ r)
+
+-- after a gap there is one object or one refusal, and never both
+abbrev pub One-each-gap : Type 0
+One-each-gap = (bs : List ℕ) (e : Ending) → Past-gap bs → One-outcome bs e
+
+-- a decimal has one nearest single
+abbrev pub One-nearest : Type 0
+One-nearest = (c : ℕ) (k : ℤ) → (bits : ℕ) × Nearest c k bits × ((b : ℕ) → Nearest c k b → b ≡ bits)
+
+-- text decodes, to no more bytes than it has, or it ends in a lone backslash
+abbrev pub Decodes-or-ends : Type 0
+Decodes-or-ends = (t : List ℕ) → ((d : List ℕ) × Decodes t d × (length d ≤ length t)) ⊎ Ends-in-backslash t
+
+-- and never both
+abbrev pub Never-both : Type 0
+Never-both = (t d : List ℕ) → Decodes t d → Ends-in-backslash t → ⊥
+
+-- the text of a literal string decodes, to no more bytes than it has
+abbrev pub Text-decodes : Type 0
+Text-decodes = (t : List ℕ) → Text t → (d : List ℕ) × Decodes t d × (length d ≤ length t)
+
+-- any text decodes in at most one way
+abbrev pub One-decoding : Type 0
+One-decoding = (t c d : List ℕ) → Decodes t c → Decodes t d → c ≡ d
+
+-- a parser answers an object in one way
+abbrev pub One-answer : Type 0
+One-answer = (bs : List ℕ) (e : Ending) (o : Shown) (rest : List ℕ) → Begins bs e o rest → (p : Parser) (at : ℕ) → (a : Answer) × Judges p at o a × ((b : Answer) → Judges p at o b → b ≡ a)
+
+-- a call on a source has one turn
+abbrev pub One-turn : Type 0
+One-turn = (s : Meaning) (call : Call) → (a : Answer) × (p : List Piece) × (t : Meaning) × Turn s call a p t × ((b : Answer) (q : List Piece) (u : Meaning) → Turn s call b q u → (b ≡ a) × (q ≡ p) × (u ≡ t))
+
+-- a list of calls on a source has one run
+abbrev pub One-run : Type 0
+One-run = (s : Meaning) (calls : List Call) → (a : List Answer) × (p : List Piece) × (t : Meaning) × Run s calls a p t × ((b : List Answer) (q : List Piece) (u : Meaning) → Run s calls b q u → (b ≡ a) × (q ≡ p) × (u ≡ t))
+
+-- a run has all of the law of a shared scanner
+abbrev pub Run-is-shared : Type 0
+Run-is-shared = (s : Meaning) (calls : List Call) (a : List Answer) (p : List Piece) (t : Meaning) → Run s calls a p t → Shared s calls a p t

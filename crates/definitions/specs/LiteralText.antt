@@ -1,0 +1,40 @@
+-- What literal text stands for. Assumes nothing.
+use mathlib.Core.Bool.{Bool, not, cond, _||_}
+use mathlib.Core.List.{List, [], _∷_, _++_}
+use Prim.Native.Nat.{ℕ, _+_, _%_}
+use lib.Dec.{T, eqb}
+use Rattle.definitions.specs.Bytes.{octal, backslash, Outside}
+use Rattle.definitions.specs.Numbers.{value}
+
+-- n r t b f stand for 0A 0D 09 08 0C, and any other byte for itself
+abbrev pub escaped : ℕ → ℕ
+escaped b = cond (eqb b 110) 0x0A (cond (eqb b 114) 0x0D (cond (eqb b 116) 0x09 (cond (eqb b 98) 0x08 (cond (eqb b 102) 0x0C b))))
+
+-- 0A or 0D
+abbrev pub newline : ℕ → Bool
+newline b = eqb b 0x0A || eqb b 0x0D
+
+-- 0A
+abbrev pub line-feed : ℕ → Bool
+line-feed b = eqb b 0x0A
+
+-- a newline: 0D 0A, 0D or 0A, with what follows it
+pub data Newline : List ℕ → List ℕ → Type 0 where
+  pair : {t : List ℕ} → Newline (0x0D ∷ 0x0A ∷ t) t
+  return : {t : List ℕ} → Outside line-feed t → Newline (0x0D ∷ t) t
+  feed : {t : List ℕ} → Newline (0x0A ∷ t) t
+
+-- text, and the bytes that it decodes to
+pub data Decodes : List ℕ → List ℕ → Type 0 where
+  end : Decodes [] []
+  new-line : {s t d : List ℕ} → Newline s t → Decodes t d → Decodes s (0x0A ∷ d)
+  other : {b : ℕ} {t d : List ℕ} → T (not (newline b || eqb b backslash)) → Decodes t d → Decodes (b ∷ t) (b ∷ d)
+  escape : {b : ℕ} {t d : List ℕ} → T (not (newline b || octal b)) → Decodes t d → Decodes (backslash ∷ b ∷ t) (escaped b ∷ d)
+  continued : {s t d : List ℕ} → Newline s t → Decodes t d → Decodes (backslash ∷ s) d
+  octal-1 : {x : ℕ} {t d : List ℕ} → T (octal x) → Outside octal t → Decodes t d → Decodes (backslash ∷ x ∷ t) (value 8 (x ∷ []) ∷ d)
+  octal-2 : {x y : ℕ} {t d : List ℕ} → T (octal x) → T (octal y) → Outside octal t → Decodes t d → Decodes (backslash ∷ x ∷ y ∷ t) (value 8 (x ∷ y ∷ []) ∷ d)
+  octal-3 : {x y z : ℕ} {t d : List ℕ} → T (octal x) → T (octal y) → T (octal z) → Decodes t d → Decodes (backslash ∷ x ∷ y ∷ z ∷ t) ((value 8 (x ∷ y ∷ z ∷ []) % 256) ∷ d)
+
+-- text that ends in a backslash with nothing to escape
+pub data Ends-in-backslash : List ℕ → Type 0 where
+  lone : {t d : List ℕ} → Decodes t d → Ends-in-backslash (t ++ (backslash ∷ []))

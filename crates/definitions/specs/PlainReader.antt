@@ -1,0 +1,127 @@
+-- The plain reader: what each call answers, which bytes it passes, and where it then stands. Assumes nothing.
+use mathlib.Core.Bool.{Bool, true, false, cond}
+use mathlib.Core.List.{List, [], _∷_, _++_}
+use mathlib.Core.Path.{_≡_}
+use Prim.Native.Nat.{ℕ, _+_, _*_, _^_, _≤_, _<_}
+use lib.Dec.{eqb}
+use lib.IntN.{ℤ, pos, negsuc}
+use lib.ListN.{length}
+use Rattle.definitions.specs.Sources.{Ending, clean, fault, Meaning}
+use Rattle.definitions.specs.Gaps.{Gap, Past-gap}
+use Rattle.definitions.specs.Singles.{Nearest, sign-bit}
+use Rattle.definitions.specs.Grammar.{Value, integer-value, real-value, Shown, Begins, Refuses}
+
+-- the five parsers
+pub data Parser : Type 0 where
+  parse-object : Parser
+  parse-number : Parser
+  parse-name : Parser
+  parse-string : Parser
+  parse-array : Parser
+
+-- a call: of a parser, or the question whether the end is reached
+pub data Call : Type 0 where
+  parses : Parser → Call
+  at-end : Call
+
+-- a parser that accepts an object of this kind
+pub data Accepts : Parser → ℕ → Type 0 where
+  any : {k : ℕ} → Accepts parse-object k
+  integers : Accepts parse-number 1
+  reals : Accepts parse-number 2
+  executable-names : Accepts parse-name 3
+  literal-names : Accepts parse-name 4
+  literal-strings : Accepts parse-string 5
+  hex-strings : Accepts parse-string 6
+  ascii85-strings : Accepts parse-string 7
+  arrays : Accepts parse-array 8
+
+-- a real near enough for a single: k from -18 to 18, and c × 10 ^ k below 10 ^ 18 where k is above 0 (where it is 0, c is below that already)
+pub data Near : ℕ → ℤ → Type 0 where
+  scaled-up : {c k : ℕ} → k ≤ 18 → c * 10 ^ k < 10 ^ 18 → Near c (pos k)
+  scaled-down : {c k : ℕ} → k < 18 → Near c (negsuc k)
+
+-- an object handed over, by its places in the source
+pub record Handed : Type 0 where
+  pub kind : ℕ
+  pub start : ℕ
+  pub end : ℕ
+  pub inside : List ℕ
+  pub value : Value
+
+-- what a call answers
+pub data Answer : Type 0 where
+  object : Handed → Answer
+  integer-number : ℤ → Answer
+  real-number : (bits : ℕ) → Answer
+  -- its number and place; for a fault also the ending
+  refusal : (number place : ℕ) → Ending → Answer
+  yes-no : Bool → Answer
+
+-- an object shown, at its place
+abbrev pub handed : ℕ → Shown → Handed
+handed at o = record { kind = o .kind; start = at; end = at + length (o .whole); inside = o .inside; value = o .value }
+
+-- what a parser answers of an object that it took at a place
+pub data Judges : Parser → ℕ → Shown → Answer → Type 0 where
+  -- the object, by any parser that accepts its kind but parse-number
+  hands-over : {parser : Parser} {at : ℕ} {o : Shown} → (parser ≡ parse-number → ⊥) → Accepts parser (o .kind) → Judges parser at o (object (handed at o))
+  -- an integer as it is
+  whole : {at : ℕ} {o : Shown} {z : ℤ} → Accepts parse-number (o .kind) → o .value ≡ integer-value z → Judges parse-number at o (integer-number z)
+  -- a real near enough as the nearest single
+  near : {at : ℕ} {o : Shown} {m : Bool} {c : ℕ} {k : ℤ} (bits : ℕ) → Accepts parse-number (o .kind) → o .value ≡ real-value m c k → Near c k → Nearest c k bits → Judges parse-number at o (real-number (sign-bit m + bits))
+  -- 5: a real that is not near enough
+  far : {at : ℕ} {o : Shown} (m : Bool) (c : ℕ) (k : ℤ) → Accepts parse-number (o .kind) → o .value ≡ real-value m c k → (Near c k → ⊥) → Judges parse-number at o (refusal 5 at clean)
+  -- 4: a kind that the parser does not accept
+  other-type : {parser : Parser} {at : ℕ} {o : Shown} → (Accepts parser (o .kind) → ⊥) → Judges parser at o (refusal 4 at clean)
+
+-- a piece of the bytes that a call passed: a gap, an object, or what was refused
+pub data Piece : Type 0 where
+  gap : List ℕ → Piece
+  taken : List ℕ → Piece
+  refused : List ℕ → Piece
+
+-- the bytes of a piece
+abbrev pub piece-bytes : Piece → List ℕ
+piece-bytes (gap bs) = bs
+piece-bytes (taken bs) = bs
+piece-bytes (refused bs) = bs
+
+-- the bytes of pieces in order
+abbrev pub joined : List Piece → List ℕ
+joined [] = []
+joined (p ∷ ps) = piece-bytes p ++ joined ps
+
+-- the fault goes with refusal 7, and with no other
+abbrev pub carried : ℕ → Ending → Ending
+carried n e = cond (eqb n 7) e clean
+
+-- no byte is left, and the end is clean
+abbrev pub at-clean-end : List ℕ → Ending → Bool
+at-clean-end [] clean = true
+at-clean-end [] (fault l c) = false
+at-clean-end (b ∷ bs) e = false
+
+-- a source after some bytes were passed
+abbrev pub after : Meaning → List ℕ → List ℕ → Meaning
+after s passed rest = record { to-come = rest; place = s .place + length passed; ending = s .ending }
+
+-- the bytes to come are a gap and what stands after it
+pub record Parted (s : Meaning) (g bs : List ℕ) : Type 0 where
+  pub cut : g ++ bs ≡ s .to-come
+  pub gap : Gap g bs
+  pub past : Past-gap bs
+
+-- one call: its answer, the pieces that it passed, and where the reader then stands
+pub data Turn (s : Meaning) : Call → Answer → List Piece → Meaning → Type 0 where
+  -- an object was taken, and judged by the parser
+  takes : {parser : Parser} {answer : Answer} {g bs rest : List ℕ} {o : Shown}
+      → Parted s g bs → Begins bs (s .ending) o rest → Judges parser (s .place + length g) o answer
+      → Turn s (parses parser) answer (gap g ∷ taken (o .whole) ∷ []) (after s (g ++ (o .whole)) rest)
+  -- a refusal, at the gap's end, and its piece passed
+  refuses : {parser : Parser} {n : ℕ} {g bs piece rest : List ℕ}
+      → Parted s g bs → Refuses bs (s .ending) n piece rest
+      → Turn s (parses parser) (refusal n (s .place + length g) (carried n (s .ending))) (gap g ∷ refused piece ∷ []) (after s (g ++ piece) rest)
+  -- the gap passed, and whether the clean end is reached
+  looks : {g bs : List ℕ} → Parted s g bs
+      → Turn s at-end (yes-no (at-clean-end bs (s .ending))) (gap g ∷ []) (after s g bs)

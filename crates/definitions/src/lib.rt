@@ -1,0 +1,39 @@
+ghost use Rattle.definitions.specs.Laws.{One-gap, One-reading, One-each-gap, One-nearest, Decodes-or-ends, Never-both, Text-decodes, One-decoding, One-answer, One-turn, One-run, Run-is-shared};
+ghost use Rattle.definitions.specs.Starred.{Starred};
+
+// the theorems of the grammar, asked for by contracts
+pub fn grammar_stands() -> u8
+    ensures gap { λ _. ⌜ One-gap ⌝ }
+    ensures reading { λ _. ⌜ One-reading ⌝ }
+    ensures outcome { λ _. ⌜ One-each-gap ⌝ }
+{
+    0
+}
+
+// the theorems of literal text
+pub fn text_stands() -> u8
+    ensures some { λ _. ⌜ Decodes-or-ends ⌝ }
+    ensures apart { λ _. ⌜ Never-both ⌝ }
+    ensures text { λ _. ⌜ Text-decodes ⌝ }
+    ensures one { λ _. ⌜ One-decoding ⌝ }
+{
+    0
+}
+
+// the theorems of the plain reader and of a shared scanner
+pub fn reader_stands() -> u8
+    ensures nearest { λ _. ⌜ One-nearest ⌝ }
+    ensures answer { λ _. ⌜ One-answer ⌝ }
+    ensures turn { λ _. ⌜ One-turn ⌝ }
+    ensures run { λ _. ⌜ One-run ⌝ }
+    ensures shared { λ _. ⌜ Run-is-shared ⌝ }
+{
+    0
+}
+
+// the worked cases
+pub fn cases_stand() -> u8
+    ensures cases { λ _. ⌜ Starred ⌝ }
+{
+    0
+}
