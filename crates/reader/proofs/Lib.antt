@@ -1,0 +1,3 @@
+pub mod AtPlace
+pub mod Moves
+pub mod Table

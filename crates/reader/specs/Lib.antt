@@ -1,0 +1,3 @@
+pub mod Endings
+pub mod Lent
+pub mod Table
