@@ -1,6 +1,6 @@
 -- What asking and moving a source does to its meaning. Assumes nothing.
 use mathlib.Core.Bool.{Bool}
-use mathlib.Core.List.{List, [], _∷_, _++_}
+use mathlib.Core.List.{List, [], _∷_}
 use mathlib.Core.Path.{_≡_}
 use Prim.Native.Nat.{ℕ, _+_}
 use lib.ListN.{length}
@@ -37,8 +37,7 @@ stepped m = record { to-come = rest (m .to-come); place = m .place + pace (m .to
 abbrev pub past-class : (ℕ → Bool) → Meaning → Meaning
 past-class c m = record { to-come = past c (m .to-come); place = m .place + length (front c (m .to-come)); ending = m .ending }
 
--- some bytes were passed, and nothing else changed
-pub record Passed (bs : List ℕ) (before after : Meaning) : Type 0 where
-  pub cut : bs ++ after .to-come ≡ before .to-come
-  pub place : after .place ≡ before .place + length bs
-  pub ending : after .ending ≡ before .ending
+-- a source was only moved on: its end is where it was, and is the same
+pub record Moved (before now : Meaning) : Type 0 where
+  pub end : now .place + length (now .to-come) ≡ before .place + length (before .to-come)
+  pub ending : now .ending ≡ before .ending

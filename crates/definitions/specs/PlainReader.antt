@@ -125,3 +125,9 @@ pub data Turn (s : Meaning) : Call → Answer → List Piece → Meaning → Typ
   -- the gap passed, and whether the clean end is reached
   looks : {g bs : List ℕ} → Parted s g bs
       → Turn s at-end (yes-no (at-clean-end bs (s .ending))) (gap g ∷ []) (after s g bs)
+
+-- the gap was passed, and nothing else
+pub record Gap-passed (before now : Meaning) : Type 0 where
+  pub gap : List ℕ
+  pub parted : Parted before gap (now .to-come)
+  pub stands : now ≡ after before gap (now .to-come)

@@ -1,0 +1,2 @@
+use borrow.Author.Needs.{needs}
+use Rattle.postscript.proofs.gap.pass_gap.Needs as need

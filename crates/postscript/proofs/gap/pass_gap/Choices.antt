@@ -1,0 +1,14 @@
+use mathlib.Core.Path.{_≡_}
+use lib.ListN.{length}
+use Rattle.definitions.specs.Moves.{Moved}
+use Rattle.definitions.proofs.GapOnce.{after-gap}
+use Rattle.postscript.proofs.gap.pass_gap.Given as given
+
+-- after what is left of the gap stands what stood after the whole of it
+abbrev pub Inv-gap : given.InvT-gap
+Inv-gap g l =
+    (after-gap (g .S·Source .meaning (l .source) .to-come) ≡ after-gap (g .S·Source .meaning (l .entry .source) .to-come))
+    × Moved (g .S·Source .meaning (l .entry .source)) (g .S·Source .meaning (l .source))
+
+abbrev pub μ-gap : given.MeasureT-gap
+μ-gap g l = length (g .S·Source .meaning (l .source) .to-come)
