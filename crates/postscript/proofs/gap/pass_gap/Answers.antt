@@ -1,2 +1,30 @@
 use borrow.Author.Needs.{needs}
+use mathlib.Core.Path.{_≡_, sym, ap, _∙_}
+use lib.ListN.{length}
+use Rattle.std.specs.declared.option.Option.the-variants.{Some}
+use Rattle.definitions.specs.Sources.{Meaning}
+use Rattle.definitions.proofs.GapOnce.{after-gap}
+use Rattle.reader.proofs.Moves.{moved-on, moved-class}
+use Rattle.postscript.proofs.GapSteps.{gap-passed, comment-passed, comment-shorter}
 use Rattle.postscript.proofs.gap.pass_gap.Needs as need
+
+pub gap-less-in-37 : need.gap-less-in-37
+gap-less-in-37 g c =
+    rw (ap (λ (m : Meaning). length (m .to-come)) (c .pass .ensures)) (comment-shorter (g .S·Source .meaning (c .gap .source) .to-come) (ap Some (sym (c .in-37 .is)) ∙ c .in-Some .ensures tt))
+
+pub gap-again-in-37 : need.gap-again-in-37
+gap-again-in-37 g c =
+    let m = g .S·Source .meaning (c .gap .source) in
+    rw (c .pass .ensures) (comment-passed (m .to-come) (ap Some (sym (c .in-37 .is)) ∙ c .in-Some .ensures tt) ∙ c .gap .inv .0, moved-on (c .gap .inv .1) (moved-class _ m))
+
+pub returns-in-rest : need.returns-in-rest
+returns-in-rest g c = let s : after-gap (g .S·Source .meaning (c .gap .source) .to-come) ≡ g .S·Source .meaning (c .gap .source) .to-come = search needs in gap-passed _ _ (c .gap .inv) s
+
+pub returns-in-rest-peek : need.returns-in-rest-peek
+returns-in-rest-peek g c = let s : after-gap (g .S·Source .meaning (c .gap .source) .to-come) ≡ g .S·Source .meaning (c .gap .source) .to-come = search needs in gap-passed _ _ (c .gap .inv) s
+
+pub returns-in-rest-peek·2 : need.returns-in-rest-peek·2
+returns-in-rest-peek·2 g c = let s : after-gap (g .S·Source .meaning (c .gap .source) .to-come) ≡ g .S·Source .meaning (c .gap .source) .to-come = search needs in gap-passed _ _ (c .gap .inv) s
+
+pub returns-in-rest-2 : need.returns-in-rest-2
+returns-in-rest-2 g c = let s : after-gap (g .S·Source .meaning (c .gap .source) .to-come) ≡ g .S·Source .meaning (c .gap .source) .to-come = search needs in gap-passed _ _ (c .gap .inv) s
