@@ -20,21 +20,33 @@ line-feed b = eqb b 0x0A
 
 -- a newline: 0D 0A, 0D or 0A, with what follows it
 pub data Newline : List ℕ → List ℕ → Type 0 where
+  -- 0D 0A
   pair : {t : List ℕ} → Newline (0x0D ∷ 0x0A ∷ t) t
+  -- 0D before another byte or the end
   return : {t : List ℕ} → Outside line-feed t → Newline (0x0D ∷ t) t
+  -- 0A
   feed : {t : List ℕ} → Newline (0x0A ∷ t) t
 
 -- text, and the bytes that it decodes to
 pub data Decodes : List ℕ → List ℕ → Type 0 where
+  -- nothing
   end : Decodes [] []
+  -- a newline without a backslash gives one 0A
   new-line : {s t d : List ℕ} → Newline s t → Decodes t d → Decodes s (0x0A ∷ d)
+  -- any other byte but a backslash stays
   other : {b : ℕ} {t d : List ℕ} → T (not (newline b || eqb b backslash)) → Decodes t d → Decodes (b ∷ t) (b ∷ d)
+  -- a backslash before a byte that is no newline and no octal digit
   escape : {b : ℕ} {t d : List ℕ} → T (not (newline b || octal b)) → Decodes t d → Decodes (backslash ∷ b ∷ t) (escaped b ∷ d)
+  -- a backslash before a newline gives nothing
   continued : {s t d : List ℕ} → Newline s t → Decodes t d → Decodes (backslash ∷ s) d
+  -- a backslash with one octal digit
   octal-1 : {x : ℕ} {t d : List ℕ} → T (octal x) → Outside octal t → Decodes t d → Decodes (backslash ∷ x ∷ t) (value 8 (x ∷ []) ∷ d)
+  -- a backslash with two octal digits
   octal-2 : {x y : ℕ} {t d : List ℕ} → T (octal x) → T (octal y) → Outside octal t → Decodes t d → Decodes (backslash ∷ x ∷ y ∷ t) (value 8 (x ∷ y ∷ []) ∷ d)
+  -- a backslash with three octal digits: their value modulo 256
   octal-3 : {x y z : ℕ} {t d : List ℕ} → T (octal x) → T (octal y) → T (octal z) → Decodes t d → Decodes (backslash ∷ x ∷ y ∷ z ∷ t) ((value 8 (x ∷ y ∷ z ∷ []) % 256) ∷ d)
 
 -- text that ends in a backslash with nothing to escape
 pub data Ends-in-backslash : List ℕ → Type 0 where
+  -- text that decodes, and a backslash after it
   lone : {t d : List ℕ} → Decodes t d → Ends-in-backslash (t ++ (backslash ∷ []))

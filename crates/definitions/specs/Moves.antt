@@ -39,6 +39,9 @@ past-class c m = record { to-come = past c (m .to-come); place = m .place + leng
 
 -- some bytes were passed, and nothing else changed
 pub record Passed (bs : List ℕ) (before after : Meaning) : Type 0 where
+  -- the bytes passed stood first among those to come
   pub cut : bs ++ after .to-come ≡ before .to-come
+  -- the place rose by their count
   pub place : after .place ≡ before .place + length bs
+  -- the ending is the same
   pub ending : after .ending ≡ before .ending

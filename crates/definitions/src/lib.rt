@@ -1,5 +1,5 @@
 ghost use Rattle.definitions.specs.Laws.{One-gap, One-reading, One-each-gap, One-nearest, Decodes-or-ends, Never-both, Text-decodes, One-decoding, One-answer, One-turn, One-run, Run-is-shared};
-ghost use Rattle.definitions.specs.Starred.{Starred};
+ghost use Rattle.definitions.specs.Worked.{Worked};
 
 // the theorems of the grammar, asked for by contracts
 pub fn grammar_stands() -> u8
@@ -33,7 +33,7 @@ pub fn reader_stands() -> u8
 
 // the worked cases
 pub fn cases_stand() -> u8
-    ensures cases { λ _. ⌜ Starred ⌝ }
+    ensures cases { λ _. ⌜ Worked ⌝ }
 {
     0
 }
