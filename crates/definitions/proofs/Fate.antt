@@ -12,8 +12,9 @@ use Rattle.definitions.specs.Bytes.{All, regular, Outside, front, past}
 use Rattle.definitions.specs.Sources.{Ending, clean, fault}
 use Rattle.definitions.specs.Numbers.{Reading, integer, real, past-limits, name, Reads}
 use Rattle.definitions.specs.Grammar.{none, integer-value, real-value, String, Hex-head, Shown, Run-stops, Run-shows, integer-run, real-run, name-run, Begins, To-tilde, Lacks-close, opener, closer, Unclosed, Refuses}
+use Rattle.definitions.specs.Scan.{Found, closed, lacking, first}
 use Rattle.definitions.proofs.Bytes.{is-true, is-false, no, at, either, or-right, front-is, past-is}
-use Rattle.definitions.proofs.Scan.{Found, closed, lacking, first, top, string-first, items-pass, tilde-first}
+use Rattle.definitions.proofs.Scan.{top, string-first, items-pass, tilde-first}
 use Rattle.definitions.proofs.ReadsOnce.{one-reading}
 use Rattle.definitions.proofs.Cut.{begins-whole, refuses-piece}
 

@@ -12,8 +12,8 @@ use Rattle.definitions.specs.Sources.{Ending, clean, fault}
 use Rattle.definitions.specs.Gaps.{Past-gap}
 use Rattle.definitions.specs.Numbers.{Reading, integer, real, past-limits, name, Reads}
 use Rattle.definitions.specs.Grammar.{String, Shown, Run-stops, integer-run, real-run, name-run, Begins, To-tilde, opener, closer, Unclosed, Refuses, Outcome, an-object, a-refusal, Comes-to, One-outcome}
+use Rattle.definitions.specs.Scan.{Found, closed, lacking, out, items, text, first}
 use Rattle.definitions.proofs.Bytes.{is-true, is-false, T-from, or-left, or-right}
-use Rattle.definitions.proofs.Scan.{Found, closed, lacking, out, items, text, first}
 use Rattle.definitions.proofs.Fate.{bracketed, fate, Shows, shows, tilde-fate, opener-fate, one-object, one-refusal, never-both}
 use Rattle.definitions.proofs.Until.{Texts, is-it, T-not-from, text-ends, angle-ends, Angle-ends, runs-out, marks, strings, tildes}
 use Rattle.definitions.proofs.Rows.{Result, finds}
