@@ -11,18 +11,10 @@ use lib.ListN.{length, drop}
 use Rattle.std.proofs.shelf.Tests.{le-leb}
 use Rattle.definitions.specs.Bytes.{All, digit, Outside, front, past}
 use Rattle.definitions.specs.Numbers.{digit-worth, value, Sign, Digits, Integer-form, Radix-form, Fraction, Exponent, Real-form}
+use Rattle.definitions.specs.Readings.{first-is, unsigned, fraction, past-fraction, exponent, c-of, k-of, every, some, digits?, exponent?, real?, base, radix?}
 use Rattle.definitions.proofs.Bytes.{is-true, T-from, front-is, past-is}
 use Rattle.definitions.proofs.Until.{is-it}
-use Rattle.definitions.proofs.Readings.{first-is, unsigned, fraction, past-fraction, exponent, c-of, k-of, unsigned-is, digits-no-sign, body-starts, fraction-starts, fraction-is, parts}
-
--- the tests of the forms
-abbrev pub every : (ℕ → Bool) → List ℕ → Bool
-every c [] = true
-every c (b ∷ bs) = c b && every c bs
-
-abbrev pub some : List ℕ → Bool
-some [] = false
-some (b ∷ bs) = true
+use Rattle.definitions.proofs.Readings.{unsigned-is, digits-no-sign, body-starts, fraction-starts, fraction-is, parts}
 
 every-is : (c : ℕ → Bool) (u : List ℕ) → All c u → every c u ≡ true
 every-is c [] a = refl
@@ -65,27 +57,11 @@ front-past c (b ∷ bs) = step (c b) (front-past c bs)
     step true k = ap (λ l. b ∷ l) k
     step false k = refl
 
-abbrev pub digits? : List ℕ → Bool
-digits? ds = some ds && every digit ds
-
 digits-is : (ds : List ℕ) → Digits ds → digits? ds ≡ true
 digits-is ds (l, a) = rw (some-is ds l, every-is digit ds a)
 
 is-digits : (ds : List ℕ) → T (digits? ds) → Digits ds
 is-digits ds h = let (p, q) = parts (some ds) (every digit ds) h in (some-long ds p, every-all digit ds q)
-
-abbrev pub exponent? : List ℕ → Bool
-exponent? [] = true
-exponent? (e ∷ bs) = (eqb e 101 || eqb e 69) && digits? (unsigned bs)
-
-abbrev pub real? : List ℕ → Bool
-real? u = some (front digit (unsigned u) ++ fraction (past digit (unsigned u))) && exponent? (past-fraction (past digit (unsigned u)))
-
-abbrev pub base : List ℕ → ℕ
-base u = value 10 (front digit u)
-
-abbrev pub radix? : List ℕ → Bool
-radix? u = (some (front digit u) && (leb 2 (base u) && leb (base u) 36)) && (first-is 35 (past digit u) && (some (drop 1 (past digit u)) && every (λ b. ltb (digit-worth b) (base u)) (drop 1 (past digit u))))
 
 -- a run of a form passes its test
 exponent-tests : {e : List ℕ} {x : ℤ} → Exponent e x → exponent? e ≡ true

@@ -10,13 +10,13 @@ use lib.IntN.{ℤ, pos, negsuc}
 use lib.ListN.{length}
 use Rattle.std.proofs.shelf.Tests.{cases-lt}
 use Rattle.definitions.specs.Sources.{Ending, Meaning}
-use Rattle.definitions.specs.Grammar.{String, integer-value, real-value, Shown, Run-shows, Begins}
+use Rattle.definitions.specs.Grammar.{String, integer-value, real-value, Shown, Run-shows, Begins, Outcome, Comes-to}
 use Rattle.definitions.specs.PlainReader.{Parser, parse-object, parse-number, parse-name, parse-string, parse-array, Call, parses, at-end, Accepts, Near, scaled-up, scaled-down, Answer, refusal, yes-no, Judges, Piece, gap, taken, refused, carried, at-clean-end, after, Parted, Turn, takes, refuses, looks}
 use Rattle.definitions.specs.SharedRun.{Run, stops, goes-on}
 use Rattle.definitions.proofs.Bytes.{T-from, at, either}
 use Rattle.definitions.proofs.Singles.{some-nearest}
 use Rattle.definitions.proofs.GapTotal.{gapped}
-use Rattle.definitions.proofs.FateTotal.{After, some-object, some-refusal, after-total}
+use Rattle.definitions.proofs.OutcomeTotal.{comes}
 
 -- which kinds a parser accepts, computed
 abbrev accepts : Parser → ℕ → Bool
@@ -120,15 +120,15 @@ parted s = let (g, bs, x, p, e) = gapped (s .to-come) in (g, bs, record { cut = 
 abbrev Turned : Meaning → Call → Type 0
 Turned s call = (a : Answer) × (ps : List Piece) × (t : Meaning) × Turn s call a ps t
 
-parser : (s : Meaning) (p : Parser) (g bs : List ℕ) → Parted s g bs → After bs (s .ending) → Turned s (parses p)
-parser s p g bs x (some-object {o = o} {rest = r} y) =
+parser : (s : Meaning) (p : Parser) (g bs : List ℕ) {o : Outcome} → Parted s g bs → Comes-to bs (s .ending) o → Turned s (parses p)
+parser s p g bs x (Comes-to.begins {o = o} {rest = r} y) =
     let (a, j) = some-answer y p (s .place + length g) in
     (a, gap g ∷ taken (o .whole) ∷ [], after s (g ++ (o .whole)) r, takes x y j)
-parser s p g bs x (some-refusal {n = m} {p = q} {rest = r} y) =
+parser s p g bs x (Comes-to.refuses {n = m} {piece = q} {rest = r} y) =
     (refusal m (s .place + length g) (carried m (s .ending)), gap g ∷ refused q ∷ [], after s (g ++ q) r, refuses x y)
 
 pub some-turn : (s : Meaning) (call : Call) → (a : Answer) × (ps : List Piece) × (t : Meaning) × Turn s call a ps t
-some-turn s (parses p) = let (g, bs, x) = parted s in parser s p g bs x (after-total bs (s .ending) (x .past))
+some-turn s (parses p) = let (g, bs, x) = parted s in parser s p g bs x (comes bs (s .ending) (x .past))
 some-turn s at-end = let (g, bs, x) = parted s in (yes-no (at-clean-end bs (s .ending)), gap g ∷ [], after s g bs, looks x)
 
 pub some-run : (calls : List Call) (s : Meaning) → (a : List Answer) × (ps : List Piece) × (t : Meaning) × Run s calls a ps t

@@ -12,7 +12,7 @@ use Rattle.definitions.specs.Decoder.{Told, decoded, Decodes-into, Decodes-obj
 use Rattle.definitions.specs.SharedRun.{Run, stops, goes-on, Among, first, later, Decodes-fully, from, opener-length, inside-source, Shared}
 use Rattle.definitions.proofs.Cut.{begins-whole, turn-cut, run-cut, joined-++}
 use Rattle.definitions.proofs.Sole.{sole}
-use Rattle.definitions.proofs.FateTotal.{one-outcome}
+use Rattle.definitions.proofs.OutcomeTotal.{one-outcome}
 use Rattle.definitions.proofs.Decoding.{text-decodes, one-decoding, never-ends}
 
 turn-place : {s : Meaning} {c : Call} {x : Answer} {p : List Piece} {t : Meaning} → Turn s c x p t → (t .place ≡ s .place + length (joined p)) × (t .ending ≡ s .ending)

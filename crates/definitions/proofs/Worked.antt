@@ -18,7 +18,7 @@ use Rattle.definitions.proofs.Forms.{every-all}
 use Rattle.definitions.proofs.ReadsOnce.{reads}
 use Rattle.definitions.proofs.Singles.{nearest-up, nearest-down}
 use Rattle.definitions.proofs.Decoding.{decodes-as}
-use Rattle.definitions.proofs.FateTotal.{unclosed-from}
+use Rattle.definitions.proofs.OutcomeTotal.{unclosed-from}
 use Rattle.definitions.proofs.Total.{not-object}
 
 -- 16777217. is at a tie, and the even one is taken; 0.1 is at none

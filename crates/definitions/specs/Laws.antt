@@ -1,14 +1,16 @@
 -- What is proved of the definitions: each has exactly one result. Assumes nothing.
-use mathlib.Core.List.{List}
+use mathlib.Core.List.{List, _++_}
 use mathlib.Core.Logic.{_⊎_}
 use mathlib.Core.Path.{_≡_}
 use Prim.Native.Nat.{ℕ, _≤_}
 use lib.IntN.{ℤ}
 use lib.ListN.{length}
 use Rattle.definitions.specs.Sources.{Ending, Meaning}
-use Rattle.definitions.specs.Gaps.{Past-gap}
+use Rattle.definitions.specs.Gaps.{Gap, Past-gap, after-gap}
 use Rattle.definitions.specs.Numbers.{Reading, Reads}
-use Rattle.definitions.specs.Grammar.{Text, Shown, Begins, One-outcome}
+use Rattle.definitions.specs.Readings.{reading}
+use Rattle.definitions.specs.Grammar.{Text, Shown, Begins, Comes-to, One-outcome}
+use Rattle.definitions.specs.Outcomes.{outcome}
 use Rattle.definitions.specs.LiteralText.{Decodes, Ends-in-backslash}
 use Rattle.definitions.specs.Singles.{Nearest}
 use Rattle.definitions.specs.PlainReader.{Parser, Call, Answer, Judges, Piece, Parted, Turn}
@@ -18,13 +20,25 @@ use Rattle.definitions.specs.SharedRun.{Run, Shared}
 abbrev pub One-gap : Type 0
 One-gap = (s : Meaning) → (g : List ℕ) × (bs : List ℕ) × Parted s g bs × ((h cs : List ℕ) → Parted s h cs → (h ≡ g) × (cs ≡ bs))
 
+-- what is computed to come after the gap does: before it stands a gap, and no piece of a gap begins it
+abbrev pub Gap-computed : Type 0
+Gap-computed = (bs : List ℕ) → (g : List ℕ) × Gap g (after-gap bs) × Past-gap (after-gap bs) × (g ++ after-gap bs ≡ bs)
+
 -- a run has one reading
 abbrev pub One-reading : Type 0
 One-reading = (u : List ℕ) → (r : Reading) × Reads u r × ((q : Reading) → Reads u q → q ≡ r)
 
+-- the reading that is computed is the run's
+abbrev pub Reading-computed : Type 0
+Reading-computed = (u : List ℕ) → Reads u (reading u)
+
 -- after a gap there is one object or one refusal, and never both
 abbrev pub One-each-gap : Type 0
 One-each-gap = (bs : List ℕ) (e : Ending) → Past-gap bs → One-outcome bs e
+
+-- the outcome that is computed stands after the gap
+abbrev pub Outcome-computed : Type 0
+Outcome-computed = (bs : List ℕ) (e : Ending) → Past-gap bs → Comes-to bs e (outcome bs e)
 
 -- a decimal has one nearest single
 abbrev pub One-nearest : Type 0

@@ -1,4 +1,4 @@
-ghost use Rattle.definitions.specs.Laws.{One-gap, One-reading, One-each-gap, One-nearest, Decodes-or-ends, Never-both, Text-decodes, One-decoding, One-answer, One-turn, One-run, Run-is-shared};
+ghost use Rattle.definitions.specs.Laws.{One-gap, Gap-computed, One-reading, Reading-computed, One-each-gap, Outcome-computed, One-nearest, Decodes-or-ends, Never-both, Text-decodes, One-decoding, One-answer, One-turn, One-run, Run-is-shared};
 ghost use Rattle.definitions.specs.Worked.{Worked};
 
 // the theorems of the grammar, asked for by contracts
@@ -6,6 +6,9 @@ pub fn grammar_stands() -> u8
     ensures gap { λ _. ⌜ One-gap ⌝ }
     ensures reading { λ _. ⌜ One-reading ⌝ }
     ensures outcome { λ _. ⌜ One-each-gap ⌝ }
+    ensures passes { λ _. ⌜ Gap-computed ⌝ }
+    ensures reads { λ _. ⌜ Reading-computed ⌝ }
+    ensures comes { λ _. ⌜ Outcome-computed ⌝ }
 {
     0
 }
