@@ -15,10 +15,9 @@ use Rattle.definitions.specs.Readings.{reading}
 use Rattle.definitions.specs.Grammar.{String, Shown, Run-stops, integer-run, real-run, name-run, Begins, To-tilde, Lacks-close, opener, closer, Unclosed, Refuses, Outcome, an-object, a-refusal, Comes-to, One-outcome}
 use Rattle.definitions.specs.Scan.{Found, closed, lacking, out, items, text, first}
 use Rattle.definitions.specs.Outcomes.{unclosed-number, of-opener, of-name, of-reading, of-run, outcome}
-use Rattle.definitions.proofs.Bytes.{is-true, is-false, T-from, at, either, or-left, or-right}
+use Rattle.definitions.proofs.Bytes.{is-true, is-false, T-from, at, either, or-left, or-right, front-all, past-outside, front-past}
 use Rattle.definitions.proofs.Until.{Texts, is-it, T-not-from, text-ends, angle-ends, Angle-ends, runs-out, marks, strings, tildes}
 use Rattle.definitions.proofs.Rows.{Result, finds}
-use Rattle.definitions.proofs.Forms.{front-all, past-outside, front-past}
 use Rattle.definitions.proofs.ReadsOnce.{reads, reading-is}
 use Rattle.definitions.proofs.OutcomeOnce.{opener-is, closer-is, name-is, run-is, stops-outside, run-stops, object-is, tilde-is}
 

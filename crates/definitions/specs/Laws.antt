@@ -1,11 +1,14 @@
 -- What is proved of the definitions: each has exactly one result. Assumes nothing.
 use mathlib.Core.List.{List, _++_}
 use mathlib.Core.Logic.{_⊎_}
+use mathlib.Core.Bool.{Bool}
 use mathlib.Core.Path.{_≡_}
 use Prim.Native.Nat.{ℕ, _≤_}
 use lib.IntN.{ℤ}
-use lib.ListN.{length}
-use Rattle.definitions.specs.Sources.{Ending, Meaning}
+use lib.ListN.{length, take}
+use Rattle.definitions.specs.Bytes.{All, Outside, front, past}
+use Rattle.definitions.specs.Sources.{Ending, Meaning, In-limit, lent, window, eexec}
+use Rattle.definitions.specs.Moves.{stepped, past-class, Passed}
 use Rattle.definitions.specs.Gaps.{Gap, Past-gap, after-gap}
 use Rattle.definitions.specs.Numbers.{Reading, Reads}
 use Rattle.definitions.specs.Readings.{reading}
@@ -15,6 +18,34 @@ use Rattle.definitions.specs.LiteralText.{Decodes, Ends-in-backslash}
 use Rattle.definitions.specs.Singles.{Nearest}
 use Rattle.definitions.specs.PlainReader.{Parser, Call, Answer, Judges, Piece, Parted, Turn}
 use Rattle.definitions.specs.SharedRun.{Run, Shared}
+
+-- bytes are a front of a class and a rest that does not begin with a byte of it, in one way
+abbrev pub One-front : Type 0
+One-front = (c : ℕ → Bool) (bs : List ℕ) → (front c bs ++ past c bs ≡ bs) × All c (front c bs) × Outside c (past c bs) × ((u r : List ℕ) → u ++ r ≡ bs → All c u → Outside c r → (u ≡ front c bs) × (r ≡ past c bs))
+
+-- lent bytes are within the limit
+abbrev pub Lent-in-limit : Type 0
+Lent-in-limit = (bs : List ℕ) → In-limit (lent bs)
+
+-- a window over a source within the limit is within it
+abbrev pub Window-in-limit : Type 0
+Window-in-limit = (n : ℕ) (below : Meaning) → In-limit below → In-limit (window n below)
+
+-- an encrypted part over a source within the limit is within it
+abbrev pub Eexec-in-limit : Type 0
+Eexec-in-limit = (below : Meaning) → In-limit below → In-limit (eexec below)
+
+-- a step passes the first byte to come, if there is one
+abbrev pub Step-passes : Type 0
+Step-passes = (m : Meaning) → Passed (take 1 (m .to-come)) m (stepped m)
+
+-- passing a class passes its longest front
+abbrev pub Class-passes : Type 0
+Class-passes = (c : ℕ → Bool) (m : Meaning) → Passed (front c (m .to-come)) m (past-class c m)
+
+-- whatever was passed, the source stays within the limit
+abbrev pub Passed-in-limit : Type 0
+Passed-in-limit = (bs : List ℕ) (before after : Meaning) → Passed bs before after → In-limit before → In-limit after
 
 -- the bytes to come are a gap and what stands after it in one way
 abbrev pub One-gap : Type 0

@@ -1,5 +1,19 @@
+ghost use Rattle.definitions.specs.Laws.{One-front, Lent-in-limit, Window-in-limit, Eexec-in-limit, Step-passes, Class-passes, Passed-in-limit};
 ghost use Rattle.definitions.specs.Laws.{One-gap, Gap-computed, One-reading, Reading-computed, One-each-gap, Outcome-computed, One-nearest, Decodes-or-ends, Never-both, Text-decodes, One-decoding, One-answer, One-turn, One-run, Run-is-shared};
 ghost use Rattle.definitions.specs.Worked.{Worked};
+
+// the theorems of sources: what a class passes, the limit of each layer, and what a move passes
+pub fn sources_stand() -> u8
+    ensures class { λ _. ⌜ One-front ⌝ }
+    ensures lent { λ _. ⌜ Lent-in-limit ⌝ }
+    ensures window { λ _. ⌜ Window-in-limit ⌝ }
+    ensures eexec { λ _. ⌜ Eexec-in-limit ⌝ }
+    ensures step { λ _. ⌜ Step-passes ⌝ }
+    ensures pass { λ _. ⌜ Class-passes ⌝ }
+    ensures stays { λ _. ⌜ Passed-in-limit ⌝ }
+{
+    0
+}
 
 // the theorems of the grammar, asked for by contracts
 pub fn grammar_stands() -> u8
