@@ -46,6 +46,13 @@ so-accepts parse-string k t =
     either (eqb k 5 || eqb k 6) (eqb k 7) (either (eqb k 5) (eqb k 6) (at P k 5 Accepts.literal-strings) (at P k 6 Accepts.hex-strings)) (at P k 7 Accepts.ascii85-strings) t
 so-accepts parse-array k t = at (Accepts parse-array) k 8 Accepts.arrays t
 
+pub accepts-or : (p : Parser) (k : ℕ) → Accepts p k ⊎ (Accepts p k → ⊥)
+accepts-or p k = step (accepts p k) refl
+  where
+    step : (t : Bool) → accepts p k ≡ t → Accepts p k ⊎ (Accepts p k → ⊥)
+    step true e = inl (so-accepts p k (T-from (accepts p k) e))
+    step false e = inr (λ a. subst T e (accepts-so a))
+
 near-up : {c k : ℕ} → Near c (pos k) → (k ≤ 18) × (c * 10 ^ k < 10 ^ 18)
 near-up (scaled-up h l) = (h, l)
 

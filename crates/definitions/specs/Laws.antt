@@ -4,6 +4,7 @@ use mathlib.Core.Logic.{_⊎_}
 use mathlib.Core.Bool.{Bool}
 use mathlib.Core.Path.{_≡_}
 use Prim.Native.Nat.{ℕ, _≤_}
+use lib.Dec.{T}
 use lib.IntN.{ℤ}
 use lib.ListN.{length, take}
 use Rattle.definitions.specs.Bytes.{All, Outside, front, past}
@@ -14,9 +15,10 @@ use Rattle.definitions.specs.Numbers.{Reading, Reads}
 use Rattle.definitions.specs.Readings.{reading}
 use Rattle.definitions.specs.Grammar.{Text, Shown, Begins, Comes-to, One-outcome}
 use Rattle.definitions.specs.Outcomes.{outcome}
-use Rattle.definitions.specs.LiteralText.{Decodes, Ends-in-backslash}
+use Rattle.definitions.specs.LiteralText.{Decodes, Ends-in-backslash, paired, decode}
 use Rattle.definitions.specs.Singles.{Nearest}
-use Rattle.definitions.specs.PlainReader.{Parser, Call, Answer, Judges, Piece, Parted, Turn}
+use Rattle.definitions.specs.PlainReader.{Parser, Call, Handed, Answer, Judges, Piece, Parted, Turn}
+use Rattle.definitions.specs.Decoder.{Told, Decodes-source, Decodes-object}
 use Rattle.definitions.specs.SharedRun.{Run, Shared}
 
 -- bytes are a front of a class and a rest that does not begin with a byte of it, in one way
@@ -90,6 +92,18 @@ Text-decodes = (t : List ℕ) → Text t → (d : List ℕ) × Decodes t d × (l
 -- any text decodes in at most one way
 abbrev pub One-decoding : Type 0
 One-decoding = (t c d : List ℕ) → Decodes t c → Decodes t d → c ≡ d
+
+-- text of which no backslash stands alone at the end decodes to the bytes that are computed
+abbrev pub Decoding-computed : Type 0
+Decoding-computed = (t : List ℕ) → T (paired t) → Decodes t (decode t)
+
+-- the decoder of a source has one answer and one buffer after, as long as the one before
+abbrev pub One-decoded-source : Type 0
+One-decoded-source = (buffer : List ℕ) (m : Meaning) → (told : Told) × (after : List ℕ) × Decodes-source buffer m told after × (length after ≡ length buffer) × ((t : Told) (a : List ℕ) → Decodes-source buffer m t a → (t ≡ told) × (a ≡ after))
+
+-- and so has the decoder of an object
+abbrev pub One-decoded-object : Type 0
+One-decoded-object = (buffer : List ℕ) (h : Handed) → (told : Told) × (after : List ℕ) × Decodes-object buffer h told after × (length after ≡ length buffer) × ((t : Told) (a : List ℕ) → Decodes-object buffer h t a → (t ≡ told) × (a ≡ after))
 
 -- a parser answers an object in one way
 abbrev pub One-answer : Type 0

@@ -1,5 +1,5 @@
 -- What literal text stands for. Assumes nothing.
-use mathlib.Core.Bool.{Bool, not, cond, _||_}
+use mathlib.Core.Bool.{Bool, true, false, not, cond, _||_}
 use mathlib.Core.List.{List, [], _∷_, _++_}
 use Prim.Native.Nat.{ℕ, _+_, _%_}
 use lib.Dec.{T, eqb}
@@ -50,3 +50,44 @@ pub data Decodes : List ℕ → List ℕ → Type 0 where
 pub data Ends-in-backslash : List ℕ → Type 0 where
   -- text that decodes, and a backslash after it
   lone : {t d : List ℕ} → Decodes t d → Ends-in-backslash (t ++ (backslash ∷ []))
+
+-- no backslash stands alone at the end, computed; and after a backslash
+abbrev mutual
+  pub paired : List ℕ → Bool
+  paired [] = true
+  paired (b ∷ bs) = cond (eqb b backslash) (escaping bs) (paired bs)
+
+  pub escaping : List ℕ → Bool
+  escaping [] = false
+  escaping (b ∷ bs) = paired bs
+
+-- what one byte gives, by what the bytes after it give after a backslash, after a 0D, and otherwise
+abbrev pub one-byte : ℕ → List ℕ → List ℕ → List ℕ → List ℕ
+one-byte b after-escape after-return rest = cond (eqb b backslash) after-escape (cond (eqb b 0x0D) (0x0A ∷ after-return) (cond (eqb b 0x0A) (0x0A ∷ rest) (b ∷ rest)))
+
+-- the decoded bytes, computed
+abbrev mutual
+  -- of text
+  pub decode : List ℕ → List ℕ
+  decode [] = []
+  decode (b ∷ bs) = one-byte b (decode-escape bs) (past-feed bs) (decode bs)
+
+  -- after a 0D, of which a 0A is a part
+  pub past-feed : List ℕ → List ℕ
+  past-feed [] = []
+  past-feed (b ∷ bs) = cond (eqb b 0x0A) (decode bs) (one-byte b (decode-escape bs) (past-feed bs) (decode bs))
+
+  -- after a backslash
+  pub decode-escape : List ℕ → List ℕ
+  decode-escape [] = []
+  decode-escape (x ∷ bs) = cond (eqb x 0x0D) (past-feed bs) (cond (eqb x 0x0A) (decode bs) (cond (octal x) (decode-octal x bs) (escaped x ∷ decode bs)))
+
+  -- after a backslash and one octal digit
+  pub decode-octal : ℕ → List ℕ → List ℕ
+  decode-octal x [] = value 8 (x ∷ []) ∷ []
+  decode-octal x (y ∷ bs) = cond (octal y) (decode-last x y bs) (value 8 (x ∷ []) ∷ one-byte y (decode-escape bs) (past-feed bs) (decode bs))
+
+  -- after a backslash and two octal digits
+  pub decode-last : ℕ → ℕ → List ℕ → List ℕ
+  decode-last x y [] = value 8 (x ∷ y ∷ []) ∷ []
+  decode-last x y (z ∷ bs) = cond (octal z) ((value 8 (x ∷ y ∷ z ∷ []) % 256) ∷ decode bs) (value 8 (x ∷ y ∷ []) ∷ one-byte z (decode-escape bs) (past-feed bs) (decode bs))

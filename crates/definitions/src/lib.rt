@@ -1,5 +1,5 @@
 ghost use Rattle.definitions.specs.Laws.{One-front, Lent-in-limit, Window-in-limit, Eexec-in-limit, Step-passes, Class-passes, Passed-in-limit};
-ghost use Rattle.definitions.specs.Laws.{One-gap, Gap-computed, One-reading, Reading-computed, One-each-gap, Outcome-computed, One-nearest, Decodes-or-ends, Never-both, Text-decodes, One-decoding, One-answer, One-turn, One-run, Run-is-shared};
+ghost use Rattle.definitions.specs.Laws.{One-gap, Gap-computed, One-reading, Reading-computed, One-each-gap, Outcome-computed, One-nearest, Decodes-or-ends, Never-both, Text-decodes, One-decoding, Decoding-computed, One-decoded-source, One-decoded-object, One-answer, One-turn, One-run, Run-is-shared};
 ghost use Rattle.definitions.specs.Worked.{Worked};
 
 // the theorems of sources: what a class passes, the limit of each layer, and what a move passes
@@ -27,12 +27,15 @@ pub fn grammar_stands() -> u8
     0
 }
 
-// the theorems of literal text
+// the theorems of literal text and its decoder
 pub fn text_stands() -> u8
     ensures some { λ _. ⌜ Decodes-or-ends ⌝ }
     ensures apart { λ _. ⌜ Never-both ⌝ }
     ensures text { λ _. ⌜ Text-decodes ⌝ }
     ensures one { λ _. ⌜ One-decoding ⌝ }
+    ensures decodes { λ _. ⌜ Decoding-computed ⌝ }
+    ensures source { λ _. ⌜ One-decoded-source ⌝ }
+    ensures object { λ _. ⌜ One-decoded-object ⌝ }
 {
     0
 }
