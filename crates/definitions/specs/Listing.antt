@@ -1,16 +1,17 @@
 -- The lines of a listing, and what a line call leaves in its buffer. Assumes nothing.
-use mathlib.Core.Bool.{Bool, true, false}
+use mathlib.Core.Bool.{Bool, true, false, cond}
 use mathlib.Core.List.{List, [], _∷_, _++_}
-use Prim.Native.Nat.{ℕ, suc, _≤_, _<_}
+use Prim.Native.Nat.{ℕ, zero, suc, _+_, _/_, _%_, _^_, _≤_, _<_}
 use lib.Chars.{codes}
-use lib.Dec.{T}
-use lib.IntN.{ℤ, pos, negsuc}
+use lib.Dec.{T, ltb}
+use lib.IntN.{ℤ, pos, negsuc, negℤ}
 use lib.ListN.{length, drop}
+use lib.Signed.{_≤ℤ_}
 use Rattle.definitions.specs.Bytes.{All, digit, within, digit-zero, digit-one, digit-nine, minus-sign, small-e, comma, feed-byte}
 use Rattle.definitions.specs.Numbers.{value}
-use Rattle.definitions.specs.Sources.{Ending, clean}
+use Rattle.definitions.specs.Sources.{Ending, clean, limit}
 use Rattle.definitions.specs.Grammar.{Value, none, integer-value, real-value}
-use Rattle.definitions.specs.PlainReader.{Handed, Answer, object, refusal, yes-no}
+use Rattle.definitions.specs.PlainReader.{Handed, Answer, object, integer-number, real-number, refusal, yes-no}
 use Rattle.definitions.specs.Decoder.{Told, decoded, turned-down}
 
 -- a number in decimal digits, without a zero in front
@@ -57,3 +58,68 @@ pub data Writes-line (buffer line : List ℕ) : Told → List ℕ → Type 0 whe
   too-short : length buffer < 48 → Writes-line buffer line (turned-down 8 0 clean) buffer
   -- the line stands first in the buffer, and its length is answered
   writes : 48 ≤ length buffer → Writes-line buffer line (decoded (length line)) (line ++ drop (length line) buffer)
+
+-- the digits of a number, computed, with a bound on their count
+abbrev pub digits-by : ℕ → ℕ → List ℕ
+digits-by zero n = []
+digits-by (suc turns) n = cond (ltb n 10) ((digit-zero + n) ∷ []) (digits-by turns (n / 10) ++ ((digit-zero + n % 10) ∷ []))
+
+-- the digits of a number, computed: the last is the remainder by 10, and those before it are the quotient's
+abbrev pub decimal : ℕ → List ℕ
+decimal n = digits-by (suc n) n
+
+-- the same with a minus in front of what is below 0
+abbrev pub signed-decimal : ℤ → List ℕ
+signed-decimal (pos n) = decimal n
+signed-decimal (negsuc n) = minus-sign ∷ decimal (suc n)
+
+-- the value of an object, computed
+abbrev pub value-text : ℕ → Value → List ℕ
+value-text count none = decimal count
+value-text count (integer-value z) = signed-decimal z
+value-text count (real-value m c k) = minus-if m ++ (decimal c ++ (small-e ∷ signed-decimal k))
+
+-- the line of an answer at a place, computed; nothing for an answer that has none
+abbrev pub line : ℕ → Answer → List ℕ
+line place (object h) = decimal (h .kind) ++ (comma ∷ (decimal (h .start) ++ (comma ∷ (decimal (h .end) ++ (comma ∷ (value-text (length (h .inside)) (h .value) ++ (feed-byte ∷ [])))))))
+line place (integer-number z) = []
+line place (real-number bits) = []
+line place (refusal n p e) = codes "refused," ++ (decimal n ++ (comma ∷ (decimal p ++ (feed-byte ∷ []))))
+line place (yes-no true) = codes "end," ++ (decimal place ++ (feed-byte ∷ []))
+line place (yes-no false) = []
+
+-- an answer that has a line: an object, a refusal, or a yes
+abbrev pub Listed : Answer → Type 0
+Listed (object h) = Unit {0}
+Listed (integer-number z) = ⊥
+Listed (real-number bits) = ⊥
+Listed (refusal n p e) = Unit {0}
+Listed (yes-no true) = Unit {0}
+Listed (yes-no false) = ⊥
+
+-- an integer of 32 bits; c below 10 ^ 18 and k from -99 to 99
+abbrev pub Value-in-range : Value → Type 0
+Value-in-range none = Unit {0}
+Value-in-range (integer-value z) = (negℤ (pos 2147483648) ≤ℤ z) × (z ≤ℤ pos 2147483647)
+Value-in-range (real-value m c k) = (c < 10 ^ 18) × (negℤ (pos 99) ≤ℤ k) × (k ≤ℤ pos 99)
+
+-- an object whose parts are in their ranges
+pub record Object-in-range (h : Handed) : Type 0 where
+  -- one digit
+  pub kind : h .kind < 10
+  -- within the limit of a source
+  pub start : h .start ≤ limit
+  -- within the limit of a source
+  pub end : h .end ≤ limit
+  -- within the limit of a source
+  pub count : length (h .inside) ≤ limit
+  -- within the limits of numbers
+  pub value : Value-in-range (h .value)
+
+-- an answer at a place, with all that its line shows in range
+abbrev pub In-range : ℕ → Answer → Type 0
+In-range place (object h) = Object-in-range h
+In-range place (integer-number z) = Unit {0}
+In-range place (real-number bits) = Unit {0}
+In-range place (refusal n p e) = (n < 100) × (p ≤ limit)
+In-range place (yes-no b) = place ≤ limit
