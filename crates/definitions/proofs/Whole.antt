@@ -101,7 +101,7 @@ text-fully h k x = let (d, y, l) = text-decodes x in record {
 }
 
 -- the bytes before and after the inside
-begins-parts : {l : List ℕ} {e : Ending} {o : Shown} {r : List ℕ} → Begins l e o r → (a : List ℕ) × (b : List ℕ) × (a ++ (o .inside ++ b) ≡ o .whole) × (length a ≡ opener-length (o .kind))
+pub begins-parts : {l : List ℕ} {e : Ending} {o : Shown} {r : List ℕ} → Begins l e o r → (a : List ℕ) × (b : List ℕ) × (a ++ (o .inside ++ b) ≡ o .whole) × (length a ≡ opener-length (o .kind))
 begins-parts (Begins.string (String.literal x)) = (40 ∷ [], 41 ∷ [], refl, refl)
 begins-parts (Begins.string (String.hex u h x)) = (60 ∷ [], 62 ∷ [], refl, refl)
 begins-parts (Begins.string (String.ascii85 u x)) = (60 ∷ 126 ∷ [], 126 ∷ 62 ∷ [], refl, refl)

@@ -20,6 +20,7 @@ use Rattle.definitions.specs.Singles.{Nearest}
 use Rattle.definitions.specs.PlainReader.{Parser, Call, Handed, Answer, Judges, Piece, Parted, Turn}
 use Rattle.definitions.specs.Decoder.{Told, Decodes-source, Decodes-object}
 use Rattle.definitions.specs.SharedRun.{Run, Shared}
+use Rattle.definitions.specs.Listing.{Written, decimal, Line, line, Listed, In-range, Writes-line}
 
 -- bytes are a front of a class and a rest that does not begin with a byte of it, in one way
 abbrev pub One-front : Type 0
@@ -120,3 +121,23 @@ One-run = (s : Meaning) (calls : List Call) → (a : List Answer) × (p : List P
 -- a run has all of the law of a shared scanner
 abbrev pub Run-is-shared : Type 0
 Run-is-shared = (s : Meaning) (calls : List Call) (a : List Answer) (p : List Piece) (t : Meaning) → Run s calls a p t → Shared s calls a p t
+
+-- a number has one text, which is computed
+abbrev pub One-text : Type 0
+One-text = (n : ℕ) → Written n (decimal n) × ((ds : List ℕ) → Written n ds → ds ≡ decimal n)
+
+-- each object, refusal and yes has the line that is computed, and no answer has another
+abbrev pub One-line : Type 0
+One-line = (place : ℕ) (a : Answer) → (Listed a → Line place a (line place a)) × ((text : List ℕ) → Line place a text → text ≡ line place a)
+
+-- a line has at most 48 bytes where all that it shows is in range
+abbrev pub Line-fits : Type 0
+Line-fits = (place : ℕ) (a : Answer) (text : List ℕ) → Line place a text → In-range place a → length text ≤ 48
+
+-- whatever a call answers over a source within the limit, its line has at most 48 bytes
+abbrev pub Turn-fits : Type 0
+Turn-fits = (s : Meaning) (call : Call) (a : Answer) (p : List Piece) (t : Meaning) → Turn s call a p t → In-limit s → (text : List ℕ) → Line (t .place) a text → length text ≤ 48
+
+-- a line is written into a buffer in one way, and one of at most 48 bytes leaves the buffer as long as it was
+abbrev pub One-writing : Type 0
+One-writing = (buffer text : List ℕ) → (told : Told) × (after : List ℕ) × Writes-line buffer text told after × (length text ≤ 48 → length after ≡ length buffer) × ((t : Told) (a : List ℕ) → Writes-line buffer text t a → (t ≡ told) × (a ≡ after))

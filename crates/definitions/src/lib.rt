@@ -1,5 +1,6 @@
 ghost use Rattle.definitions.specs.Laws.{One-front, Lent-in-limit, Window-in-limit, Eexec-in-limit, Step-passes, Class-passes, Passed-in-limit};
 ghost use Rattle.definitions.specs.Laws.{One-gap, Gap-computed, One-reading, Reading-computed, One-each-gap, Outcome-computed, One-nearest, Decodes-or-ends, Never-both, Text-decodes, One-decoding, Decoding-computed, One-decoded-source, One-decoded-object, One-answer, One-turn, One-run, Run-is-shared};
+ghost use Rattle.definitions.specs.Laws.{One-text, One-line, Line-fits, Turn-fits, One-writing};
 ghost use Rattle.definitions.specs.Worked.{Worked};
 
 // the theorems of sources: what a class passes, the limit of each layer, and what a move passes
@@ -47,6 +48,17 @@ pub fn reader_stands() -> u8
     ensures turn { λ _. ⌜ One-turn ⌝ }
     ensures run { λ _. ⌜ One-run ⌝ }
     ensures shared { λ _. ⌜ Run-is-shared ⌝ }
+{
+    0
+}
+
+// the theorems of a listing
+pub fn listing_stands() -> u8
+    ensures text { λ _. ⌜ One-text ⌝ }
+    ensures line { λ _. ⌜ One-line ⌝ }
+    ensures fits { λ _. ⌜ Line-fits ⌝ }
+    ensures turns { λ _. ⌜ Turn-fits ⌝ }
+    ensures writes { λ _. ⌜ One-writing ⌝ }
 {
     0
 }
