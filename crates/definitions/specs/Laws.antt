@@ -16,7 +16,7 @@ use Rattle.definitions.specs.Readings.{reading}
 use Rattle.definitions.specs.Grammar.{Text, Shown, Begins, Comes-to, One-outcome}
 use Rattle.definitions.specs.Outcomes.{outcome}
 use Rattle.definitions.specs.LiteralText.{Decodes, Ends-in-backslash, paired, decode}
-use Rattle.definitions.specs.Singles.{Nearest}
+use Rattle.definitions.specs.Singles.{Nearest, Integer-of, to-integer}
 use Rattle.definitions.specs.PlainReader.{Parser, Call, Handed, Answer, Judges, Piece, Parted, Turn}
 use Rattle.definitions.specs.Decoder.{Told, Decodes-source, Decodes-object}
 use Rattle.definitions.specs.SharedRun.{Run, Shared}
@@ -77,6 +77,10 @@ Outcome-computed = (bs : List ℕ) (e : Ending) → Past-gap bs → Comes-to bs 
 -- a decimal has one nearest single
 abbrev pub One-nearest : Type 0
 One-nearest = (c : ℕ) (k : ℤ) → (bits : ℕ) × Nearest c k bits × ((b : ℕ) → Nearest c k b → b ≡ bits)
+
+-- a single has one integer, which is computed
+abbrev pub One-integer : Type 0
+One-integer = (bits : ℕ) → Integer-of bits (to-integer bits) × ((z : ℤ) → Integer-of bits z → z ≡ to-integer bits)
 
 -- text decodes, to no more bytes than it has, or it ends in a lone backslash
 abbrev pub Decodes-or-ends : Type 0

@@ -1,5 +1,5 @@
 ghost use Rattle.definitions.specs.Laws.{One-front, Lent-in-limit, Window-in-limit, Eexec-in-limit, Step-passes, Class-passes, Passed-in-limit};
-ghost use Rattle.definitions.specs.Laws.{One-gap, Gap-computed, One-reading, Reading-computed, One-each-gap, Outcome-computed, One-nearest, Decodes-or-ends, Never-both, Text-decodes, One-decoding, Decoding-computed, One-decoded-source, One-decoded-object, One-answer, One-turn, One-run, Run-is-shared};
+ghost use Rattle.definitions.specs.Laws.{One-gap, Gap-computed, One-reading, Reading-computed, One-each-gap, Outcome-computed, One-nearest, One-integer, Decodes-or-ends, Never-both, Text-decodes, One-decoding, Decoding-computed, One-decoded-source, One-decoded-object, One-answer, One-turn, One-run, Run-is-shared};
 ghost use Rattle.definitions.specs.Laws.{One-text, One-line, Line-fits, Turn-fits, One-writing};
 ghost use Rattle.definitions.specs.Worked.{Worked};
 
@@ -44,6 +44,7 @@ pub fn text_stands() -> u8
 // the theorems of the plain reader and of a shared scanner
 pub fn reader_stands() -> u8
     ensures nearest { λ _. ⌜ One-nearest ⌝ }
+    ensures integer { λ _. ⌜ One-integer ⌝ }
     ensures answer { λ _. ⌜ One-answer ⌝ }
     ensures turn { λ _. ⌜ One-turn ⌝ }
     ensures run { λ _. ⌜ One-run ⌝ }
