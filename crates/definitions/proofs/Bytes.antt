@@ -1,7 +1,7 @@
 -- Tests on bytes, and the longest front of a class. Assumes nothing.
 use mathlib.Core.Bool.{Bool, true, false, not, cond, _||_}
 use mathlib.Core.List.{List, [], _∷_, _++_}
-use mathlib.Core.Path.{_≡_, refl, sym, ap, subst}
+use mathlib.Core.Path.{_≡_, refl, sym, ap, subst, _∙_}
 use Prim.Native.Nat.{ℕ}
 use lib.Dec.{T, eqb, eqb→eq}
 use Rattle.definitions.specs.Bytes.{All, Outside, front, past}
@@ -50,3 +50,31 @@ at P b x p t = subst P (sym (eqb→eq b x t)) p
 pub either : {P : Type 0} (x y : Bool) → (T x → P) → (T y → P) → T (x || y) → P
 either true y f g h = f tt
 either false y f g h = g h
+
+-- the longest front of a class is of the class, and what comes after it begins outside
+pub front-all : (c : ℕ → Bool) (bs : List ℕ) → All c (front c bs)
+front-all c [] = tt
+front-all c (b ∷ bs) = step (c b) refl (front-all c bs)
+  where
+    step : (t : Bool) → c b ≡ t → All c (front c bs) → All c (cond t (b ∷ front c bs) [])
+    step true e k = (T-from (c b) e, k)
+    step false e k = tt
+
+pub past-outside : (c : ℕ → Bool) (bs : List ℕ) → Outside c (past c bs)
+past-outside c [] = tt
+past-outside c (b ∷ bs) = step (c b) refl (past-outside c bs)
+  where
+    step : (t : Bool) → c b ≡ t → Outside c (past c bs) → Outside c (cond t (past c bs) (b ∷ bs))
+    step true e k = k
+    step false e k = subst (λ t. T (not t)) (sym e) tt
+
+pub front-past : (c : ℕ → Bool) (bs : List ℕ) → front c bs ++ past c bs ≡ bs
+front-past c [] = refl
+front-past c (b ∷ bs) = step (c b) (front-past c bs)
+  where
+    step : (t : Bool) → front c bs ++ past c bs ≡ bs → cond t (b ∷ front c bs) [] ++ cond t (past c bs) (b ∷ bs) ≡ b ∷ bs
+    step true k = ap (λ l. b ∷ l) k
+    step false k = refl
+
+pub one-front : (c : ℕ → Bool) (bs u r : List ℕ) → u ++ r ≡ bs → All c u → Outside c r → (u ≡ front c bs) × (r ≡ past c bs)
+one-front c bs u r e a o = (sym (front-is c u r a o) ∙ ap (front c) e, sym (past-is c u r a o) ∙ ap (past c) e)

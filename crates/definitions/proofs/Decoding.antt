@@ -10,19 +10,9 @@ use lib.ListN.{length}
 use Rattle.definitions.specs.Bytes.{octal, Outside}
 use Rattle.definitions.specs.Numbers.{value}
 use Rattle.definitions.specs.Grammar.{plain, Text}
-use Rattle.definitions.specs.LiteralText.{escaped, newline, line-feed, Newline, Decodes, Ends-in-backslash}
+use Rattle.definitions.specs.LiteralText.{escaped, newline, line-feed, Newline, Decodes, Ends-in-backslash, paired, escaping, decode, past-feed, decode-escape, decode-octal, decode-last}
 use Rattle.definitions.proofs.Bytes.{is-true, is-false, T-from, no, at, either, or-right}
 use Rattle.definitions.proofs.Until.{is-it, T-not-from}
-
--- no backslash stands alone at the end
-abbrev mutual
-  pub paired : List ℕ → Bool
-  paired [] = true
-  paired (b ∷ bs) = cond (eqb b 92) (escaping bs) (paired bs)
-
-  pub escaping : List ℕ → Bool
-  escaping [] = false
-  escaping (b ∷ bs) = paired bs
 
 text-paired : {t : List ℕ} → Text t → (r : List ℕ) → paired (t ++ r) ≡ paired r
 text-paired Text.end r = refl
@@ -105,31 +95,6 @@ decodes (suc n) (b ∷ t) l p = decode-step n (λ q m h. decodes n q m h) b t (o
 
 pub text-decodes : {t : List ℕ} → Text t → Decoded t
 text-decodes {t} x = decodes (length t) t (omega arith) (paired-text x)
-
--- the decoded bytes, computed: what one byte and then the rest come to
-abbrev one : ℕ → List ℕ → List ℕ → List ℕ → List ℕ
-one b after-escape after-return rest = cond (eqb b 92) after-escape (cond (eqb b 13) (10 ∷ after-return) (cond (eqb b 10) (10 ∷ rest) (b ∷ rest)))
-
-abbrev mutual
-  pub decode : List ℕ → List ℕ
-  decode [] = []
-  decode (b ∷ bs) = one b (decode-escape bs) (past-feed bs) (decode bs)
-
-  pub past-feed : List ℕ → List ℕ
-  past-feed [] = []
-  past-feed (b ∷ bs) = cond (eqb b 10) (decode bs) (one b (decode-escape bs) (past-feed bs) (decode bs))
-
-  pub decode-escape : List ℕ → List ℕ
-  decode-escape [] = []
-  decode-escape (x ∷ bs) = cond (eqb x 13) (past-feed bs) (cond (eqb x 10) (decode bs) (cond (octal x) (decode-octal x bs) (escaped x ∷ decode bs)))
-
-  pub decode-octal : ℕ → List ℕ → List ℕ
-  decode-octal x [] = value 8 (x ∷ []) ∷ []
-  decode-octal x (y ∷ bs) = cond (octal y) (decode-last x y bs) (value 8 (x ∷ []) ∷ one y (decode-escape bs) (past-feed bs) (decode bs))
-
-  pub decode-last : ℕ → ℕ → List ℕ → List ℕ
-  decode-last x y [] = value 8 (x ∷ y ∷ []) ∷ []
-  decode-last x y (z ∷ bs) = cond (octal z) ((value 8 (x ∷ y ∷ z ∷ []) % 256) ∷ decode bs) (value 8 (x ∷ y ∷ []) ∷ one z (decode-escape bs) (past-feed bs) (decode bs))
 
 no-feed : (t : List ℕ) → Outside line-feed t → past-feed t ≡ decode t
 no-feed [] h = refl

@@ -11,18 +11,10 @@ use lib.ListN.{length, drop}
 use Rattle.std.proofs.shelf.Tests.{le-leb}
 use Rattle.definitions.specs.Bytes.{All, digit, Outside, front, past}
 use Rattle.definitions.specs.Numbers.{digit-worth, value, Sign, Digits, Integer-form, Radix-form, Fraction, Exponent, Real-form}
-use Rattle.definitions.proofs.Bytes.{is-true, T-from, front-is, past-is}
+use Rattle.definitions.specs.Readings.{first-is, unsigned, fraction, past-fraction, exponent, c-of, k-of, every, some, digits?, exponent?, real?, base, radix?}
+use Rattle.definitions.proofs.Bytes.{is-true, T-from, front-is, past-is, front-all, front-past}
 use Rattle.definitions.proofs.Until.{is-it}
-use Rattle.definitions.proofs.Readings.{first-is, unsigned, fraction, past-fraction, exponent, c-of, k-of, unsigned-is, digits-no-sign, body-starts, fraction-starts, fraction-is, parts}
-
--- the tests of the forms
-abbrev pub every : (ℕ → Bool) → List ℕ → Bool
-every c [] = true
-every c (b ∷ bs) = c b && every c bs
-
-abbrev pub some : List ℕ → Bool
-some [] = false
-some (b ∷ bs) = true
+use Rattle.definitions.proofs.Readings.{unsigned-is, digits-no-sign, body-starts, fraction-starts, fraction-is, parts}
 
 every-is : (c : ℕ → Bool) (u : List ℕ) → All c u → every c u ≡ true
 every-is c [] a = refl
@@ -40,52 +32,11 @@ some-long : (u : List ℕ) → T (some u) → 0 < length u
 some-long [] h = absurd h
 some-long (b ∷ u) h = omega arith
 
--- the longest front of a class is of the class, and what comes after it begins outside
-pub front-all : (c : ℕ → Bool) (bs : List ℕ) → All c (front c bs)
-front-all c [] = tt
-front-all c (b ∷ bs) = step (c b) refl (front-all c bs)
-  where
-    step : (t : Bool) → c b ≡ t → All c (front c bs) → All c (cond t (b ∷ front c bs) [])
-    step true e k = (T-from (c b) e, k)
-    step false e k = tt
-
-pub past-outside : (c : ℕ → Bool) (bs : List ℕ) → Outside c (past c bs)
-past-outside c [] = tt
-past-outside c (b ∷ bs) = step (c b) refl (past-outside c bs)
-  where
-    step : (t : Bool) → c b ≡ t → Outside c (past c bs) → Outside c (cond t (past c bs) (b ∷ bs))
-    step true e k = k
-    step false e k = subst (λ t. T (not t)) (sym e) tt
-
-pub front-past : (c : ℕ → Bool) (bs : List ℕ) → front c bs ++ past c bs ≡ bs
-front-past c [] = refl
-front-past c (b ∷ bs) = step (c b) (front-past c bs)
-  where
-    step : (t : Bool) → front c bs ++ past c bs ≡ bs → cond t (b ∷ front c bs) [] ++ cond t (past c bs) (b ∷ bs) ≡ b ∷ bs
-    step true k = ap (λ l. b ∷ l) k
-    step false k = refl
-
-abbrev pub digits? : List ℕ → Bool
-digits? ds = some ds && every digit ds
-
 digits-is : (ds : List ℕ) → Digits ds → digits? ds ≡ true
 digits-is ds (l, a) = rw (some-is ds l, every-is digit ds a)
 
 is-digits : (ds : List ℕ) → T (digits? ds) → Digits ds
 is-digits ds h = let (p, q) = parts (some ds) (every digit ds) h in (some-long ds p, every-all digit ds q)
-
-abbrev pub exponent? : List ℕ → Bool
-exponent? [] = true
-exponent? (e ∷ bs) = (eqb e 101 || eqb e 69) && digits? (unsigned bs)
-
-abbrev pub real? : List ℕ → Bool
-real? u = some (front digit (unsigned u) ++ fraction (past digit (unsigned u))) && exponent? (past-fraction (past digit (unsigned u)))
-
-abbrev pub base : List ℕ → ℕ
-base u = value 10 (front digit u)
-
-abbrev pub radix? : List ℕ → Bool
-radix? u = (some (front digit u) && (leb 2 (base u) && leb (base u) 36)) && (first-is 35 (past digit u) && (some (drop 1 (past digit u)) && every (λ b. ltb (digit-worth b) (base u)) (drop 1 (past digit u))))
 
 -- a run of a form passes its test
 exponent-tests : {e : List ℕ} {x : ℤ} → Exponent e x → exponent? e ≡ true

@@ -6,22 +6,8 @@ use Prim.Native.Nat.{ℕ}
 use lib.Dec.{T, eqb, eqb→eq}
 use Rattle.std.proofs.shelf.Lists.{append-cancel-right}
 use Rattle.definitions.specs.Bytes.{All, blank, comment-end}
-use Rattle.definitions.specs.Gaps.{Gap, none, blank-byte, comment, open-mark, close-mark, Past-gap, Comment-stops}
+use Rattle.definitions.specs.Gaps.{Gap, none, blank-byte, comment, open-mark, close-mark, Past-gap, Comment-stops, after-gap, after-comment, after-mark}
 use Rattle.definitions.proofs.Bytes.{is-true, is-false, T-from, or-left, or-right, at, either}
-
--- what comes after the gap that a list begins with
-abbrev mutual
-  pub after-gap : List ℕ → List ℕ
-  after-gap [] = []
-  after-gap (b ∷ bs) = cond (blank b) (after-gap bs) (cond (eqb b 37) (after-comment bs) (cond (eqb b 60) (after-mark 60 bs) (cond (eqb b 62) (after-mark 62 bs) (b ∷ bs))))
-
-  pub after-comment : List ℕ → List ℕ
-  after-comment [] = []
-  after-comment (b ∷ bs) = cond (comment-end b) (after-gap bs) (after-comment bs)
-
-  pub after-mark : ℕ → List ℕ → List ℕ
-  after-mark c [] = c ∷ []
-  after-mark c (b ∷ bs) = cond (eqb b c) (after-gap bs) (c ∷ b ∷ bs)
 
 blank-end : (b : ℕ) → T (comment-end b) → T (blank b)
 blank-end b h =

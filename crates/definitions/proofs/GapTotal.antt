@@ -8,9 +8,9 @@ use native.Mathlib.Omega.{arith}
 use lib.Dec.{T, eqb, eqb→eq}
 use lib.ListN.{length, length-append}
 use Rattle.definitions.specs.Bytes.{All, blank, comment-end}
-use Rattle.definitions.specs.Gaps.{Gap, none, blank-byte, comment, open-mark, close-mark, Past-gap, Comment-stops}
+use Rattle.definitions.specs.Gaps.{Gap, none, blank-byte, comment, open-mark, close-mark, Past-gap, Comment-stops, after-gap}
 use Rattle.definitions.proofs.Bytes.{T-from}
-use Rattle.definitions.proofs.GapOnce.{after-gap, after-gap-is}
+use Rattle.definitions.proofs.GapOnce.{after-gap-is}
 use Rattle.definitions.proofs.Readings.{parts}
 use Rattle.definitions.proofs.Until.{until, is-it}
 

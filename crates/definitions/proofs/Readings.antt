@@ -10,39 +10,8 @@ use lib.ListN.{length, drop}
 use Rattle.std.proofs.shelf.Tests.{true≢false}
 use Rattle.definitions.specs.Bytes.{All, digit, Outside, front, past}
 use Rattle.definitions.specs.Numbers.{value, Sign, signed, Digits, Integer-form, Radix-form, Fraction, Exponent, Real-form}
+use Rattle.definitions.specs.Readings.{sign, first-is, unsigned, fraction, past-fraction, exponent, c-of, k-of}
 use Rattle.definitions.proofs.Bytes.{is-false, no, at, either, or-right, front-is, past-is}
-
-abbrev pub sign : ℕ → Bool
-sign b = eqb b 43 || eqb b 45
-
-abbrev pub first-is : ℕ → List ℕ → Bool
-first-is x [] = false
-first-is x (b ∷ bs) = eqb b x
-
--- a sign is passed
-abbrev pub unsigned : List ℕ → List ℕ
-unsigned [] = []
-unsigned (b ∷ bs) = cond (sign b) bs (b ∷ bs)
-
--- the digits after a dot that stands first, and what stands after them
-abbrev pub fraction : List ℕ → List ℕ
-fraction [] = []
-fraction (b ∷ bs) = cond (eqb b 46) (front digit bs) []
-
-abbrev pub past-fraction : List ℕ → List ℕ
-past-fraction [] = []
-past-fraction (b ∷ bs) = cond (eqb b 46) (past digit bs) (b ∷ bs)
-
-abbrev pub exponent : List ℕ → ℤ
-exponent [] = pos 0
-exponent (e ∷ bs) = signed (first-is 45 bs) (value 10 (unsigned bs))
-
--- the sign, c and k of a run of the real form
-abbrev pub c-of : List ℕ → ℕ
-c-of u = value 10 (front digit (unsigned u) ++ fraction (past digit (unsigned u)))
-
-abbrev pub k-of : List ℕ → ℤ
-k-of u = exponent (past-fraction (past digit (unsigned u))) -ℤ pos (length (fraction (past digit (unsigned u))))
 
 pub unsigned-is : {s : List ℕ} {m : Bool} (r : List ℕ) → Sign s m → Outside sign r → unsigned (s ++ r) ≡ r
 unsigned-is [] Sign.none o = refl

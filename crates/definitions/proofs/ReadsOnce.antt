@@ -10,13 +10,10 @@ use lib.Signed.{leZ}
 use Rattle.std.proofs.shelf.Tests.{lt-ltb, le-ltb, le-leb, leb-true, ltb-true, ltb-false}
 use Rattle.definitions.specs.Bytes.{digit, past}
 use Rattle.definitions.specs.Numbers.{value, signed, Integer-form, In-32-bits, Radix-form, of-32-bits, Real-form, Reading, integer, real, past-limits, name, Decimal, settled, No-integer, Number-run, Reads, as-integer, as-radix, radix-past, as-real, real-past, as-name}
+use Rattle.definitions.specs.Readings.{first-is, unsigned, c-of, k-of, digits?, real?, base, radix?, fits?, decimal?, integer?, radix-reading, real-reading, reading}
 use Rattle.definitions.proofs.Bytes.{is-true, T-from, refuted}
-use Rattle.definitions.proofs.Readings.{first-is, unsigned, unsigned-is, digits-no-sign, c-of, k-of, real-read, integer-real, radix-read, both, parts, hash-clash}
-use Rattle.definitions.proofs.Forms.{digits?, real?, radix?, base, integer-tests, is-integer, radix-tests, real-tests, is-radix, is-real}
-
-abbrev fits? : Bool → ℕ → Bool
-fits? false n = leb n 2147483647
-fits? true n = leb n 2147483648
+use Rattle.definitions.proofs.Readings.{unsigned-is, digits-no-sign, real-read, integer-real, radix-read, both, parts, hash-clash}
+use Rattle.definitions.proofs.Forms.{integer-tests, is-integer, radix-tests, real-tests, is-radix, is-real}
 
 fits-is : (m : Bool) (n : ℕ) → In-32-bits m n → fits? m n ≡ true
 fits-is false n h = le-leb n 2147483647 h
@@ -25,9 +22,6 @@ fits-is true n h = le-leb n 2147483648 h
 is-fits : (m : Bool) (n : ℕ) → fits? m n ≡ true → In-32-bits m n
 is-fits false n h = leb-true n 2147483647 h
 is-fits true n h = leb-true n 2147483648 h
-
-abbrev pub decimal? : ℕ → ℤ → Bool
-decimal? c k = ltb c 1000000000000000000 && (leZ (negsuc 98) k && leZ k (pos 99))
 
 decimal-is : (c : ℕ) (k : ℤ) → Decimal c k → decimal? c k ≡ true
 decimal-is c k d = ap₂ (λ x y. x && y) (lt-ltb c 1000000000000000000 (d .digits)) (both (leZ (negsuc 98) k) (leZ k (pos 99)) (d .low .le) (d .high .le))
@@ -38,21 +32,6 @@ is-decimal c x t =
     let (p, q) = parts (ltb c 1000000000000000000) (leZ (negsuc 98) k && leZ k (pos 99)) t in
     let (a, b) = parts (leZ (negsuc 98) k) (leZ k (pos 99)) q in
     record { digits = ltb-true c 1000000000000000000 (is-true (ltb c 1000000000000000000) p); low = record { le = a }; high = record { le = b }; zero-plain = λ e. ap (λ n. settled n x) e }
-
--- what a run of a form reads as
-abbrev pub radix-reading : ℕ → Reading
-radix-reading n = cond (ltb n 4294967296) (integer (of-32-bits n)) past-limits
-
-abbrev pub real-reading : Bool → ℕ → ℤ → Reading
-real-reading m c x = cond (decimal? c (settled c x)) (real m c (settled c x)) past-limits
-
-abbrev pub integer? : List ℕ → Bool
-integer? u = digits? (unsigned u) && fits? (first-is 45 u) (value 10 (unsigned u))
-
--- the reading of a run
-abbrev pub reading : List ℕ → Reading
-reading u = cond (integer? u) (integer (signed (first-is 45 u) (value 10 (unsigned u))))
-    (cond (radix? u) (radix-reading (value (base u) (drop 1 (past digit u)))) (cond (real? u) (real-reading (first-is 45 u) (c-of u) (k-of u)) name))
 
 integer-read : {u : List ℕ} {m : Bool} {n : ℕ} → Integer-form u m n → value 10 (unsigned u) ≡ n
 integer-read (Integer-form.form ds g d) = ap (value 10) (unsigned-is ds g (digits-no-sign ds d))

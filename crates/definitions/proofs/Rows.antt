@@ -9,7 +9,8 @@ use lib.Dec.{T, eqb}
 use lib.ListN.{length, length-append}
 use Rattle.definitions.specs.Bytes.{All, comment-end, other-than}
 use Rattle.definitions.specs.Grammar.{loose, String, Items, Open-items, Lacks-close}
-use Rattle.definitions.proofs.Scan.{Found, closed, lacking, out, items, text, ascii85, comment, top, ascii85-passes, lacks, items-pass}
+use Rattle.definitions.specs.Scan.{Found, closed, lacking, out, items, text, ascii85, comment}
+use Rattle.definitions.proofs.Scan.{top, ascii85-passes, lacks, items-pass}
 use Rattle.definitions.proofs.Until.{Texts, until, comment-out, is-it, text-ends, angle-ends, Angle-ends, runs-out, marks, strings, tildes}
 
 -- d rows of items, each with its closer

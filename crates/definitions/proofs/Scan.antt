@@ -1,62 +1,13 @@
 -- Strings and arrays are closed in one way only: one scan of the bytes finds the closer. Assumes nothing.
-use mathlib.Core.Bool.{not, cond}
+use mathlib.Core.Bool.{not}
 use mathlib.Core.List.{List, [], _∷_, _++_, append-assoc}
 use mathlib.Core.Path.{_≡_, refl, ap, _∙_}
 use Prim.Native.Nat.{ℕ, zero, suc}
 use lib.Dec.{T, eqb}
 use Rattle.definitions.specs.Bytes.{All, comment-end, other-than}
 use Rattle.definitions.specs.Grammar.{plain, loose, Text, String, Hex-head, Items, Open-items, To-tilde, Lacks-close}
+use Rattle.definitions.specs.Scan.{Found, closed, lacking, out, items, text, angle, hex, ascii85, tilde, comment, first}
 use Rattle.definitions.proofs.Bytes.{is-true, is-false, no, or-left, or-right}
-
--- the bytes after the closer; those after a ~ that lacks its >; or the bytes run out
-pub data Found : Type 0 where
-  closed : List ℕ → Found
-  lacking : List ℕ → Found
-  out : Found
-
-abbrev pub by-depth : {X : Type 0} → ℕ → X → (ℕ → X) → X
-by-depth zero x f = x
-by-depth (suc d) x f = f d
-
--- d brackets are open, and n parentheses inside the outermost one of a text
-abbrev mutual
-  pub items : ℕ → List ℕ → Found
-  items d [] = by-depth d (closed []) (λ e. out)
-  items d (b ∷ bs) = by-depth d (closed (b ∷ bs)) (λ e.
-      cond (eqb b 91) (items (suc d) bs) (cond (eqb b 93) (items e bs) (cond (eqb b 40) (text d 0 bs) (cond (eqb b 60) (angle d bs) (cond (eqb b 37) (comment d bs) (items d bs))))))
-
-  pub text : ℕ → ℕ → List ℕ → Found
-  text d n [] = out
-  text d n (b ∷ bs) = cond (eqb b 92) (skip d n bs) (cond (eqb b 40) (text d (suc n) bs) (cond (eqb b 41) (by-depth n (items d bs) (λ m. text d m bs)) (text d n bs)))
-
-  pub skip : ℕ → ℕ → List ℕ → Found
-  skip d n [] = out
-  skip d n (b ∷ bs) = text d n bs
-
-  pub angle : ℕ → List ℕ → Found
-  angle d [] = out
-  angle d (b ∷ bs) = cond (eqb b 60) (items d bs) (cond (eqb b 126) (ascii85 d bs) (cond (eqb b 62) (items d bs) (hex d bs)))
-
-  pub hex : ℕ → List ℕ → Found
-  hex d [] = out
-  hex d (b ∷ bs) = cond (eqb b 62) (items d bs) (hex d bs)
-
-  pub ascii85 : ℕ → List ℕ → Found
-  ascii85 d [] = out
-  ascii85 d (b ∷ bs) = cond (eqb b 126) (tilde d bs) (ascii85 d bs)
-
-  pub tilde : ℕ → List ℕ → Found
-  tilde d [] = out
-  tilde d (b ∷ bs) = cond (eqb b 62) (items d bs) (lacking (b ∷ bs))
-
-  pub comment : ℕ → List ℕ → Found
-  comment d [] = out
-  comment d (b ∷ bs) = cond (comment-end b) (items d bs) (comment d bs)
-
--- the first string or array of a list, with d brackets open around it
-abbrev pub first : ℕ → List ℕ → Found
-first d [] = out
-first d (b ∷ bs) = cond (eqb b 91) (items (suc d) bs) (cond (eqb b 40) (text d 0 bs) (cond (eqb b 60) (angle d bs) out))
 
 pub text-passes : {u : List ℕ} → Text u → (d n : ℕ) (r : List ℕ) → text d n (u ++ r) ≡ text d n r
 text-passes Text.end d n r = refl

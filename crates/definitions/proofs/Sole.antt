@@ -10,7 +10,7 @@ use Rattle.definitions.specs.Singles.{Nearest, sign-bit}
 use Rattle.definitions.specs.PlainReader.{Parser, parse-object, parse-number, parse-name, parse-string, parse-array, Call, Accepts, Near, Answer, object, integer-number, real-number, refusal, yes-no, handed, Judges, hands-over, whole, near, far, other-type, Piece, gap, taken, refused, carried, at-clean-end, after, Parted, Turn, takes, refuses, looks}
 use Rattle.definitions.specs.SharedRun.{Run, stops, goes-on}
 use Rattle.definitions.proofs.GapOnce.{one-gap}
-use Rattle.definitions.proofs.Fate.{one-object, one-refusal, never-both}
+use Rattle.definitions.proofs.OutcomeTotal.{one-object, one-refusal, never-both}
 use Rattle.definitions.proofs.Singles.{one-nearest}
 
 -- what a parser answers of an object that it accepts

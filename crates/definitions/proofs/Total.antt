@@ -10,13 +10,13 @@ use lib.IntN.{ℤ, pos, negsuc}
 use lib.ListN.{length}
 use Rattle.std.proofs.shelf.Tests.{cases-lt}
 use Rattle.definitions.specs.Sources.{Ending, Meaning}
-use Rattle.definitions.specs.Grammar.{String, integer-value, real-value, Shown, Run-shows, Begins}
+use Rattle.definitions.specs.Grammar.{String, integer-value, real-value, Shown, Run-shows, Begins, Outcome, Comes-to}
 use Rattle.definitions.specs.PlainReader.{Parser, parse-object, parse-number, parse-name, parse-string, parse-array, Call, parses, at-end, Accepts, Near, scaled-up, scaled-down, Answer, refusal, yes-no, Judges, Piece, gap, taken, refused, carried, at-clean-end, after, Parted, Turn, takes, refuses, looks}
 use Rattle.definitions.specs.SharedRun.{Run, stops, goes-on}
 use Rattle.definitions.proofs.Bytes.{T-from, at, either}
 use Rattle.definitions.proofs.Singles.{some-nearest}
 use Rattle.definitions.proofs.GapTotal.{gapped}
-use Rattle.definitions.proofs.FateTotal.{After, some-object, some-refusal, after-total}
+use Rattle.definitions.proofs.OutcomeTotal.{comes}
 
 -- which kinds a parser accepts, computed
 abbrev accepts : Parser → ℕ → Bool
@@ -45,6 +45,13 @@ so-accepts parse-string k t =
     let P = Accepts parse-string in
     either (eqb k 5 || eqb k 6) (eqb k 7) (either (eqb k 5) (eqb k 6) (at P k 5 Accepts.literal-strings) (at P k 6 Accepts.hex-strings)) (at P k 7 Accepts.ascii85-strings) t
 so-accepts parse-array k t = at (Accepts parse-array) k 8 Accepts.arrays t
+
+pub accepts-or : (p : Parser) (k : ℕ) → Accepts p k ⊎ (Accepts p k → ⊥)
+accepts-or p k = step (accepts p k) refl
+  where
+    step : (t : Bool) → accepts p k ≡ t → Accepts p k ⊎ (Accepts p k → ⊥)
+    step true e = inl (so-accepts p k (T-from (accepts p k) e))
+    step false e = inr (λ a. subst T e (accepts-so a))
 
 near-up : {c k : ℕ} → Near c (pos k) → (k ≤ 18) × (c * 10 ^ k < 10 ^ 18)
 near-up (scaled-up h l) = (h, l)
@@ -120,15 +127,15 @@ parted s = let (g, bs, x, p, e) = gapped (s .to-come) in (g, bs, record { cut = 
 abbrev Turned : Meaning → Call → Type 0
 Turned s call = (a : Answer) × (ps : List Piece) × (t : Meaning) × Turn s call a ps t
 
-parser : (s : Meaning) (p : Parser) (g bs : List ℕ) → Parted s g bs → After bs (s .ending) → Turned s (parses p)
-parser s p g bs x (some-object {o = o} {rest = r} y) =
+parser : (s : Meaning) (p : Parser) (g bs : List ℕ) {o : Outcome} → Parted s g bs → Comes-to bs (s .ending) o → Turned s (parses p)
+parser s p g bs x (Comes-to.begins {o = o} {rest = r} y) =
     let (a, j) = some-answer y p (s .place + length g) in
     (a, gap g ∷ taken (o .whole) ∷ [], after s (g ++ (o .whole)) r, takes x y j)
-parser s p g bs x (some-refusal {n = m} {p = q} {rest = r} y) =
+parser s p g bs x (Comes-to.refuses {n = m} {piece = q} {rest = r} y) =
     (refusal m (s .place + length g) (carried m (s .ending)), gap g ∷ refused q ∷ [], after s (g ++ q) r, refuses x y)
 
 pub some-turn : (s : Meaning) (call : Call) → (a : Answer) × (ps : List Piece) × (t : Meaning) × Turn s call a ps t
-some-turn s (parses p) = let (g, bs, x) = parted s in parser s p g bs x (after-total bs (s .ending) (x .past))
+some-turn s (parses p) = let (g, bs, x) = parted s in parser s p g bs x (comes bs (s .ending) (x .past))
 some-turn s at-end = let (g, bs, x) = parted s in (yes-no (at-clean-end bs (s .ending)), gap g ∷ [], after s g bs, looks x)
 
 pub some-run : (calls : List Call) (s : Meaning) → (a : List Answer) × (ps : List Piece) × (t : Meaning) × Run s calls a ps t

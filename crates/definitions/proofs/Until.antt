@@ -7,8 +7,9 @@ use Prim.Native.Nat.{ℕ, zero, suc, _+_}
 use lib.Dec.{T, eqb, eqb→eq}
 use Rattle.definitions.specs.Bytes.{All, comment-end, other-than}
 use Rattle.definitions.specs.Grammar.{plain, Text, String, Hex-head, Lacks-close}
+use Rattle.definitions.specs.Scan.{out, text, angle, hex, ascii85, comment}
 use Rattle.definitions.proofs.Bytes.{is-false, T-from}
-use Rattle.definitions.proofs.Scan.{out, text, angle, hex, ascii85, comment, text-passes, ascii85-passes}
+use Rattle.definitions.proofs.Scan.{text-passes, ascii85-passes}
 
 pub T-not-from : (b : Bool) → b ≡ false → T (not b)
 T-not-from b e = subst (λ t. T (not t)) (sym e) tt

@@ -12,7 +12,7 @@ use Rattle.definitions.specs.Decoder.{Told, decoded, Decodes-into, Decodes-obj
 use Rattle.definitions.specs.SharedRun.{Run, stops, goes-on, Among, first, later, Decodes-fully, from, opener-length, inside-source, Shared}
 use Rattle.definitions.proofs.Cut.{begins-whole, turn-cut, run-cut, joined-++}
 use Rattle.definitions.proofs.Sole.{sole}
-use Rattle.definitions.proofs.FateTotal.{one-outcome}
+use Rattle.definitions.proofs.OutcomeTotal.{one-outcome}
 use Rattle.definitions.proofs.Decoding.{text-decodes, one-decoding, never-ends}
 
 turn-place : {s : Meaning} {c : Call} {x : Answer} {p : List Piece} {t : Meaning} → Turn s c x p t → (t .place ≡ s .place + length (joined p)) × (t .ending ≡ s .ending)
@@ -101,7 +101,7 @@ text-fully h k x = let (d, y, l) = text-decodes x in record {
 }
 
 -- the bytes before and after the inside
-begins-parts : {l : List ℕ} {e : Ending} {o : Shown} {r : List ℕ} → Begins l e o r → (a : List ℕ) × (b : List ℕ) × (a ++ (o .inside ++ b) ≡ o .whole) × (length a ≡ opener-length (o .kind))
+pub begins-parts : {l : List ℕ} {e : Ending} {o : Shown} {r : List ℕ} → Begins l e o r → (a : List ℕ) × (b : List ℕ) × (a ++ (o .inside ++ b) ≡ o .whole) × (length a ≡ opener-length (o .kind))
 begins-parts (Begins.string (String.literal x)) = (40 ∷ [], 41 ∷ [], refl, refl)
 begins-parts (Begins.string (String.hex u h x)) = (60 ∷ [], 62 ∷ [], refl, refl)
 begins-parts (Begins.string (String.ascii85 u x)) = (60 ∷ 126 ∷ [], 126 ∷ 62 ∷ [], refl, refl)

@@ -1,6 +1,6 @@
 -- What asking and moving a source does to its meaning. Assumes nothing.
 use mathlib.Core.Bool.{Bool}
-use mathlib.Core.List.{List, [], _∷_}
+use mathlib.Core.List.{List, [], _∷_, _++_}
 use mathlib.Core.Path.{_≡_}
 use Prim.Native.Nat.{ℕ, _+_}
 use lib.ListN.{length}
@@ -41,3 +41,12 @@ past-class c m = record { to-come = past c (m .to-come); place = m .place + leng
 pub record Moved (before now : Meaning) : Type 0 where
   pub end : now .place + length (now .to-come) ≡ before .place + length (before .to-come)
   pub ending : now .ending ≡ before .ending
+
+-- some bytes were passed, and nothing else changed
+pub record Passed (bs : List ℕ) (before after : Meaning) : Type 0 where
+  -- the bytes passed stood first among those to come
+  pub cut : bs ++ after .to-come ≡ before .to-come
+  -- the place rose by their count
+  pub place : after .place ≡ before .place + length bs
+  -- the ending is the same
+  pub ending : after .ending ≡ before .ending

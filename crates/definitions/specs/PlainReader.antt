@@ -13,49 +13,76 @@ use Rattle.definitions.specs.Grammar.{Value, integer-value, real-value, Shown,
 
 -- the five parsers
 pub data Parser : Type 0 where
+  -- of any object
   parse-object : Parser
+  -- of kinds 1 and 2
   parse-number : Parser
+  -- of kinds 3 and 4
   parse-name : Parser
+  -- of kinds 5 to 7
   parse-string : Parser
+  -- of kind 8
   parse-array : Parser
 
 -- a call: of a parser, or the question whether the end is reached
 pub data Call : Type 0 where
+  -- of a parser
   parses : Parser → Call
+  -- whether the clean end is reached
   at-end : Call
 
 -- a parser that accepts an object of this kind
 pub data Accepts : Parser → ℕ → Type 0 where
+  -- every kind
   any : {k : ℕ} → Accepts parse-object k
+  -- 1 integer
   integers : Accepts parse-number 1
+  -- 2 real
   reals : Accepts parse-number 2
+  -- 3 executable name
   executable-names : Accepts parse-name 3
+  -- 4 literal name
   literal-names : Accepts parse-name 4
+  -- 5 literal string
   literal-strings : Accepts parse-string 5
+  -- 6 hex string
   hex-strings : Accepts parse-string 6
+  -- 7 ASCII85 string
   ascii85-strings : Accepts parse-string 7
+  -- 8 array
   arrays : Accepts parse-array 8
 
 -- a real near enough for a single: k from -18 to 18, and c × 10 ^ k below 10 ^ 18 where k is above 0 (where it is 0, c is below that already)
 pub data Near : ℕ → ℤ → Type 0 where
+  -- k from 0 to 18
   scaled-up : {c k : ℕ} → k ≤ 18 → c * 10 ^ k < 10 ^ 18 → Near c (pos k)
+  -- k from -18 to -1
   scaled-down : {c k : ℕ} → k < 18 → Near c (negsuc k)
 
 -- an object handed over, by its places in the source
 pub record Handed : Type 0 where
+  -- 1 integer, 2 real, 3 executable name, 4 literal name, 5 literal string, 6 hex string, 7 ASCII85 string, 8 array
   pub kind : ℕ
+  -- the place of its first byte
   pub start : ℕ
+  -- the place after its last byte
   pub end : ℕ
+  -- the bytes inside
   pub inside : List ℕ
+  -- the number of kinds 1 and 2
   pub value : Value
 
 -- what a call answers
 pub data Answer : Type 0 where
+  -- an object
   object : Handed → Answer
+  -- a 32-bit integer
   integer-number : ℤ → Answer
+  -- a single, by its bits
   real-number : (bits : ℕ) → Answer
-  -- its number and place; for a fault also the ending
+  -- a refusal: its number and place; for a fault also the ending
   refusal : (number place : ℕ) → Ending → Answer
+  -- whether the clean end is reached
   yes-no : Bool → Answer
 
 -- an object shown, at its place
@@ -77,8 +104,11 @@ pub data Judges : Parser → ℕ → Shown → Answer → Type 0 where
 
 -- a piece of the bytes that a call passed: a gap, an object, or what was refused
 pub data Piece : Type 0 where
+  -- a gap
   gap : List ℕ → Piece
+  -- an object that was taken
   taken : List ℕ → Piece
+  -- a refused piece
   refused : List ℕ → Piece
 
 -- the bytes of a piece
@@ -108,8 +138,11 @@ after s passed rest = record { to-come = rest; place = s .place + length passed;
 
 -- the bytes to come are a gap and what stands after it
 pub record Parted (s : Meaning) (g bs : List ℕ) : Type 0 where
+  -- together they are the bytes to come
   pub cut : g ++ bs ≡ s .to-come
+  -- the first part is a gap
   pub gap : Gap g bs
+  -- and no piece of a gap begins the second
   pub past : Past-gap bs
 
 -- one call: its answer, the pieces that it passed, and where the reader then stands

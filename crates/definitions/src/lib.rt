@@ -1,21 +1,42 @@
-ghost use Rattle.definitions.specs.Laws.{One-gap, One-reading, One-each-gap, One-nearest, Decodes-or-ends, Never-both, Text-decodes, One-decoding, One-answer, One-turn, One-run, Run-is-shared};
-ghost use Rattle.definitions.specs.Starred.{Starred};
+ghost use Rattle.definitions.specs.Laws.{One-front, Lent-in-limit, Window-in-limit, Eexec-in-limit, Step-passes, Class-passes, Passed-in-limit};
+ghost use Rattle.definitions.specs.Laws.{One-gap, Gap-computed, One-reading, Reading-computed, One-each-gap, Outcome-computed, One-nearest, One-integer, Decodes-or-ends, Never-both, Text-decodes, One-decoding, Decoding-computed, One-decoded-source, One-decoded-object, One-answer, One-turn, One-run, Run-is-shared};
+ghost use Rattle.definitions.specs.Laws.{One-text, One-line, Line-fits, Turn-fits, One-writing};
+ghost use Rattle.definitions.specs.Worked.{Worked};
+
+// the theorems of sources: what a class passes, the limit of each layer, and what a move passes
+pub fn sources_stand() -> u8
+    ensures class { λ _. ⌜ One-front ⌝ }
+    ensures lent { λ _. ⌜ Lent-in-limit ⌝ }
+    ensures window { λ _. ⌜ Window-in-limit ⌝ }
+    ensures eexec { λ _. ⌜ Eexec-in-limit ⌝ }
+    ensures step { λ _. ⌜ Step-passes ⌝ }
+    ensures pass { λ _. ⌜ Class-passes ⌝ }
+    ensures stays { λ _. ⌜ Passed-in-limit ⌝ }
+{
+    0
+}
 
 // the theorems of the grammar, asked for by contracts
 pub fn grammar_stands() -> u8
     ensures gap { λ _. ⌜ One-gap ⌝ }
     ensures reading { λ _. ⌜ One-reading ⌝ }
     ensures outcome { λ _. ⌜ One-each-gap ⌝ }
+    ensures passes { λ _. ⌜ Gap-computed ⌝ }
+    ensures reads { λ _. ⌜ Reading-computed ⌝ }
+    ensures comes { λ _. ⌜ Outcome-computed ⌝ }
 {
     0
 }
 
-// the theorems of literal text
+// the theorems of literal text and its decoder
 pub fn text_stands() -> u8
     ensures some { λ _. ⌜ Decodes-or-ends ⌝ }
     ensures apart { λ _. ⌜ Never-both ⌝ }
     ensures text { λ _. ⌜ Text-decodes ⌝ }
     ensures one { λ _. ⌜ One-decoding ⌝ }
+    ensures decodes { λ _. ⌜ Decoding-computed ⌝ }
+    ensures source { λ _. ⌜ One-decoded-source ⌝ }
+    ensures object { λ _. ⌜ One-decoded-object ⌝ }
 {
     0
 }
@@ -23,6 +44,7 @@ pub fn text_stands() -> u8
 // the theorems of the plain reader and of a shared scanner
 pub fn reader_stands() -> u8
     ensures nearest { λ _. ⌜ One-nearest ⌝ }
+    ensures integer { λ _. ⌜ One-integer ⌝ }
     ensures answer { λ _. ⌜ One-answer ⌝ }
     ensures turn { λ _. ⌜ One-turn ⌝ }
     ensures run { λ _. ⌜ One-run ⌝ }
@@ -31,9 +53,20 @@ pub fn reader_stands() -> u8
     0
 }
 
+// the theorems of a listing
+pub fn listing_stands() -> u8
+    ensures text { λ _. ⌜ One-text ⌝ }
+    ensures line { λ _. ⌜ One-line ⌝ }
+    ensures fits { λ _. ⌜ Line-fits ⌝ }
+    ensures turns { λ _. ⌜ Turn-fits ⌝ }
+    ensures writes { λ _. ⌜ One-writing ⌝ }
+{
+    0
+}
+
 // the worked cases
 pub fn cases_stand() -> u8
-    ensures cases { λ _. ⌜ Starred ⌝ }
+    ensures cases { λ _. ⌜ Worked ⌝ }
 {
     0
 }

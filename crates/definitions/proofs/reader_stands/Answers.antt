@@ -1,3 +1,5 @@
+use mathlib.Core.Path.{sym}
+use Rattle.definitions.proofs.Integers.{integer-is, integer-of}
 use Rattle.definitions.proofs.Singles.{some-nearest, one-nearest}
 use Rattle.definitions.proofs.Sole.{one-answer, one-turn, sole}
 use Rattle.definitions.proofs.Total.{some-answer, some-turn, some-run}
@@ -7,6 +9,7 @@ use Rattle.definitions.proofs.reader_stands.Needs as need
 pub returns : need.returns
 returns c = record {
   nearest = λ c k. let (a, x) = some-nearest c k in (a, x, λ b y. one-nearest c k b a y x);
+  integer = λ bits. (integer-of bits, λ z x. sym (integer-is x));
   answer = λ bs e o rest x p at. let (a, y) = some-answer x p at in (a, y, λ b z. one-answer z y);
   turn = λ s call. let (a, p, t, x) = some-turn s call in (a, p, t, x, λ b q u y. one-turn y x);
   run = λ s calls. let (a, p, t, x) = some-run calls s in (a, p, t, x, sole x);

@@ -13,12 +13,12 @@ use Rattle.definitions.specs.Numbers.{past-limits, real, integer, name, Reads}
 use Rattle.definitions.specs.Grammar.{Items, Begins, Run-shows, Refuses}
 use Rattle.definitions.specs.Singles.{Nearest}
 use Rattle.definitions.specs.PlainReader.{Near, Judges, Accepts, Turn}
-use Rattle.definitions.specs.Starred.{Starred}
+use Rattle.definitions.specs.Worked.{Worked}
 use Rattle.definitions.proofs.Forms.{every-all}
 use Rattle.definitions.proofs.ReadsOnce.{reads}
 use Rattle.definitions.proofs.Singles.{nearest-up, nearest-down}
 use Rattle.definitions.proofs.Decoding.{decodes-as}
-use Rattle.definitions.proofs.FateTotal.{unclosed-from}
+use Rattle.definitions.proofs.OutcomeTotal.{unclosed-from}
 use Rattle.definitions.proofs.Total.{not-object}
 
 -- 16777217. is at a tie, and the even one is taken; 0.1 is at none
@@ -28,8 +28,8 @@ tie = nearest-up 16777217 0 0x4B7FFFFF (lit< tt) (record { closer = lit≤ tt; a
 tenth : Nearest 1 (negsuc 0) 0x3DCCCCCD
 tenth = nearest-down 1 0 0x3DCCCCCC (lit< tt) (record { closer = lit≤ tt; at-tie = λ e. absurd (omega arith) }) (record { closer = lit≤ tt; at-tie = λ e. absurd (omega arith) })
 
-pub starred : Starred
-starred = record {
+pub worked : Worked
+worked = record {
   first-byte = refl;
   first-key = refl;
   comment-in-array = Turn.takes (record { cut = refl; gap = Gap.none; past = tt }) (Begins.array (Items.comment (93 ∷ []) 12 (tt, tt) tt Items.end)) (Judges.hands-over not-object Accepts.any);
