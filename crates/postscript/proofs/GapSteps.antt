@@ -9,11 +9,10 @@ use lib.ListN.{length, length-append}
 use Rattle.std.proofs.shelf.Ways.{tells}
 use Rattle.std.specs.declared.option.Option.the-variants.{Some}
 use Rattle.definitions.specs.Bytes.{blank, comment-end, past}
-use Rattle.definitions.specs.Gaps.{Gap, Past-gap}
+use Rattle.definitions.specs.Gaps.{Gap, Past-gap, after-gap, after-comment}
 use Rattle.definitions.specs.Moves.{first, Moved}
 use Rattle.definitions.specs.PlainReader.{Parted, Gap-passed}
 use Rattle.definitions.specs.Sources.{Meaning, Ending}
-use Rattle.definitions.proofs.GapOnce.{after-gap, after-comment}
 use Rattle.definitions.proofs.GapTotal.{gap-as}
 
 -- where no piece of a gap begins, the gap was passed

@@ -1,1 +1,2 @@
 pub mod GapSteps
+pub mod SkipSteps

@@ -1,1 +1,3 @@
 pub mod gap;
+mod open;
+mod string;

@@ -2,7 +2,7 @@ ghost use mathlib.Core.Bool.{Bool, not};
 ghost use mathlib.Core.Path.{_≡_};
 ghost use Prim.Native.Nat.{ℕ};
 ghost use lib.Dec.{ltb};
-ghost use Rattle.definitions.specs.Bytes.{blank, delimiter, regular, «comment-end», digit, octal};
+ghost use Rattle.definitions.specs.Bytes.{blank, delimiter, regular, «comment-end», digit, octal, «other-than»};
 ghost use Rattle.definitions.specs.Moves.{«past-class»};
 ghost use Rattle.definitions.specs.Numbers.{«digit-worth»};
 ghost use Rattle.reader.specs.Table.{marks};
@@ -133,6 +133,20 @@ pub impl ByteClass for Octal as OctalClass {
 
     fn contains(&self, b: u8) -> bool {
         marks_of(b) & OCTAL != 0
+    }
+}
+
+// Every byte but one.
+#[derive(Clone, Copy)]
+pub struct Except {
+    pub byte: u8,
+}
+
+pub impl ByteClass for Except as ExceptClass {
+    ghost member = { λ c. other-than (c .byte) };
+
+    fn contains(&self, b: u8) -> bool {
+        b != self.byte
     }
 }
 

@@ -3,7 +3,7 @@ use mathlib.Core.Path.{_≡_, sym, ap, _∙_}
 use lib.ListN.{length}
 use Rattle.std.specs.declared.option.Option.the-variants.{Some}
 use Rattle.definitions.specs.Sources.{Meaning}
-use Rattle.definitions.proofs.GapOnce.{after-gap}
+use Rattle.definitions.specs.Gaps.{after-gap}
 use Rattle.reader.proofs.Moves.{moved-on, moved-class}
 use Rattle.postscript.proofs.GapSteps.{gap-passed, comment-passed, comment-shorter}
 use Rattle.postscript.proofs.gap.pass_gap.Needs as need
