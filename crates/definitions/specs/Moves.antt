@@ -2,7 +2,7 @@
 use mathlib.Core.Bool.{Bool}
 use mathlib.Core.List.{List, [], _∷_, _++_}
 use mathlib.Core.Path.{_≡_}
-use Prim.Native.Nat.{ℕ, _+_}
+use Prim.Native.Nat.{ℕ, _+_, _≤_}
 use lib.ListN.{length}
 use Rattle.std.specs.declared.option.Option.{Option}
 use Rattle.std.specs.declared.option.Option.the-variants.{Some, None}
@@ -39,6 +39,7 @@ past-class c m = record { to-come = past c (m .to-come); place = m .place + leng
 
 -- a source was only moved on: its end is where it was, and is the same
 pub record Moved (before now : Meaning) : Type 0 where
+  pub forward : before .place ≤ now .place
   pub end : now .place + length (now .to-come) ≡ before .place + length (before .to-come)
   pub ending : now .ending ≡ before .ending
 

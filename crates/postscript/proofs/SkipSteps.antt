@@ -2,18 +2,18 @@
 use mathlib.Core.Bool.{Bool, true, false, not, cond}
 use mathlib.Core.List.{List, [], _∷_}
 use mathlib.Core.Path.{_≡_, refl, sym, ap, _∙_}
-use Prim.Native.Nat.{ℕ}
+use Prim.Native.Nat.{ℕ, suc}
 use native.Mathlib.Omega.{arith}
 use lib.Dec.{T, eqb, eqb→eq}
 use Rattle.std.proofs.shelf.Tests.{true≢false, ne-eqb}
 use Rattle.std.specs.Options.{isSome}
 use Rattle.std.specs.declared.option.Option.the-variants.{Some, None}
 use Rattle.std.specs.declared.result.Result.the-variants.{Ok, Err}
-use Rattle.definitions.specs.Bytes.{other-than, past}
+use Rattle.definitions.specs.Bytes.{comment-end, other-than, past}
 use Rattle.definitions.specs.Moves.{first, rest, stepped, past-class, Moved}
-use Rattle.definitions.specs.Scan.{Found, lacking, out, items, hex, ascii85, tilde}
+use Rattle.definitions.specs.Scan.{Found, lacking, out, items, hex, ascii85, tilde, comment}
 use Rattle.definitions.specs.Sources.{Meaning}
-use Rattle.definitions.proofs.Bytes.{T-from}
+use Rattle.definitions.proofs.Bytes.{T-from, no}
 use Rattle.reader.proofs.Moves.{moved-on, moved-step, moved-class}
 use Rattle.postscript.specs.Skips.{Skipped}
 use Rattle.postscript.specs.declared.open.Open.the-variants.{RanOut, LacksClose}
@@ -85,3 +85,16 @@ module _ (m : Meaning) where
         spent = tt;
         moved = moved-on tilde-moved (moved-step (stepped (past-class (other-than 126) m)));
       }
+
+in-array : (e : ℕ) (bs : List ℕ) → items (suc e) (past (λ b. not (comment-end b)) bs) ≡ comment (suc e) bs
+in-array e [] = refl
+in-array e (b ∷ bs) = step (comment-end b) refl (in-array e bs)
+  where
+    step : (t : Bool) → comment-end b ≡ t → items (suc e) (past (λ b. not (comment-end b)) bs) ≡ comment (suc e) bs → items (suc e) (cond (not t) (past (λ b. not (comment-end b)) bs) (b ∷ bs)) ≡ cond t (items (suc e) bs) (comment (suc e) bs)
+    step true k ih = let h = T-from (comment-end b) k in rw (no comment-end b 91 h (λ z. z), no comment-end b 93 h (λ z. z), no comment-end b 40 h (λ z. z), no comment-end b 60 h (λ z. z), no comment-end b 37 h (λ z. z))
+    step false k ih = ih
+
+-- a comment among the items of an array is passed
+pub comment-skipped : (e : ℕ) (bs : List ℕ) → Some 37 ≡ first bs → items (suc e) (past (λ b. not (comment-end b)) bs) ≡ items (suc e) bs
+comment-skipped e [] k = grind arith
+comment-skipped e (x ∷ bs) k = let q : x ≡ 37 = cc in rw q (in-array e bs)

@@ -1,3 +1,4 @@
+mod array;
 pub mod gap;
 mod open;
 mod string;

@@ -28,17 +28,17 @@ pub still : (m : Meaning) → m .to-come ≡ [] → stepped m ≡ m
 still m e = rw (e, add-zero)
 
 pub moved-none : (m : Meaning) → Moved m m
-moved-none m = record { end = refl; ending = refl }
+moved-none m = record { forward = omega arith; end = refl; ending = refl }
 
 pub moved-on : {a b c : Meaning} → Moved a b → Moved b c → Moved a c
-moved-on x y = record { end = y .end ∙ x .end; ending = y .ending ∙ x .ending }
+moved-on x y = record { forward = omega (arith, x .forward, y .forward); end = y .end ∙ x .end; ending = y .ending ∙ x .ending }
 
 one-less : (bs : List ℕ) → pace bs + length (rest bs) ≡ length bs
 one-less [] = refl
 one-less (b ∷ bs) = one-add (length bs)
 
 pub moved-step : (m : Meaning) → Moved m (stepped m)
-moved-step m = record { end = add-assoc (m .place) (pace (m .to-come)) (length (rest (m .to-come))) ∙ ap (λ n. m .place + n) (one-less (m .to-come)); ending = refl }
+moved-step m = record { forward = omega arith; end = add-assoc (m .place) (pace (m .to-come)) (length (rest (m .to-come))) ∙ ap (λ n. m .place + n) (one-less (m .to-come)); ending = refl }
 
 front-and-past : (c : ℕ → Bool) (bs : List ℕ) → length (front c bs) + length (past c bs) ≡ length bs
 front-and-past c [] = refl
@@ -49,4 +49,4 @@ front-and-past c (b ∷ bs) = step (c b) (front-and-past c bs)
     step false e = omega arith
 
 pub moved-class : (c : ℕ → Bool) (m : Meaning) → Moved m (past-class c m)
-moved-class c m = record { end = add-assoc (m .place) (length (front c (m .to-come))) (length (past c (m .to-come))) ∙ ap (λ n. m .place + n) (front-and-past c (m .to-come)); ending = refl }
+moved-class c m = record { forward = omega arith; end = add-assoc (m .place) (length (front c (m .to-come))) (length (past c (m .to-come))) ∙ ap (λ n. m .place + n) (front-and-past c (m .to-come)); ending = refl }
