@@ -1,2 +1,0 @@
-pub mod GapSteps
-pub mod SkipSteps

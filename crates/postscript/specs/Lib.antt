@@ -1,1 +1,1 @@
-pub mod Skips
+pub mod Refusals

@@ -1,65 +1,8 @@
-ghost use Prim.Native.Nat.{suc};
-ghost use Rattle.definitions.specs.Scan.{items, angle};
-ghost use Rattle.postscript.specs.Skips.{Skipped};
-use super::open::Open;
-use super::string::skip_ascii85;
-use super::string::skip_hex;
-use super::string::skip_literal;
-use reader::class::ByteClass;
-use reader::class::InComment;
-use reader::class::InCommentClass;
-use reader::class::pass;
-use reader::source::Source;
+use super::part::Part;
+use crate::part::PartClone;
 
-// After a < in an array: passes the second < of a mark, or a string.
-fn skip_angle<S: Source>(source: &mut S) -> Result<(), Open>
-    ensures { λ r. ⌜ Skipped angle r (S·Source .meaning (now (source .entry))) (S·Source .meaning (now (source .exit))) ⌝ }
-{
-    match source.peek() {
-        Some(b'<') => {
-            source.step();
-            Ok(())
-        }
-        Some(b'~') => {
-            source.step();
-            skip_ascii85(source)
-        }
-        _ => skip_hex(source),
-    }
-}
-
-// After the [ of an array: passes its items and the ] that closes it.
-pub fn skip_array<S: Source>(source: &mut S) -> Result<(), Open>
-    ensures { λ r. ⌜ Skipped (λ d. items (suc d)) r (S·Source .meaning (now (source .entry))) (S·Source .meaning (now (source .exit))) ⌝ }
-{
-    let mut depth: u32 = 0;
-    'array: loop {
-        let Some(b) = source.peek() else {
-            break 'array;
-        };
-        match b {
-            b'%' => pass(source, &InComment),
-            b'[' => {
-                source.step();
-                depth += 1;
-            }
-            b']' => {
-                source.step();
-                if depth == 0 {
-                    return Ok(());
-                }
-                depth -= 1;
-            }
-            b'(' => {
-                source.step();
-                skip_literal(source)?;
-            }
-            b'<' => {
-                source.step();
-                skip_angle(source)?;
-            }
-            _ => source.step(),
-        }
-    }
-    Err(Open::RanOut)
+// An array: its inside is what stands between its brackets.
+#[derive(Clone, Copy)]
+pub struct Array<I> {
+    pub part: Part<I>,
 }

@@ -1,4 +1,8 @@
-mod array;
-pub mod gap;
-mod open;
-mod string;
+pub mod array;
+pub mod error;
+pub mod name;
+pub mod object;
+pub mod part;
+mod read;
+pub mod scanner;
+pub mod string;

@@ -2,21 +2,22 @@
 use mathlib.Core.Bool.{Bool, true, false, not, cond}
 use mathlib.Core.List.{List, [], _∷_}
 use mathlib.Core.Path.{_≡_, refl, sym, ap, _∙_}
-use Prim.Native.Nat.{ℕ, suc}
+use Prim.Native.Nat.{ℕ, suc, _+_, _≤_}
 use native.Mathlib.Omega.{arith}
+use lib.ListN.{length}
 use lib.Dec.{T, eqb, eqb→eq}
 use Rattle.std.proofs.shelf.Tests.{true≢false, ne-eqb}
 use Rattle.std.specs.Options.{isSome}
 use Rattle.std.specs.declared.option.Option.the-variants.{Some, None}
 use Rattle.std.specs.declared.result.Result.the-variants.{Ok, Err}
-use Rattle.definitions.specs.Bytes.{comment-end, other-than, past}
-use Rattle.definitions.specs.Moves.{first, rest, stepped, past-class, Moved}
+use Rattle.definitions.specs.Bytes.{comment-end, other-than, front, past}
+use Rattle.definitions.specs.Moves.{first, rest, pace, stepped, past-class, Moved}
 use Rattle.definitions.specs.Scan.{Found, lacking, out, items, hex, ascii85, tilde, comment}
 use Rattle.definitions.specs.Sources.{Meaning}
 use Rattle.definitions.proofs.Bytes.{T-from, no}
 use Rattle.reader.proofs.Moves.{moved-on, moved-step, moved-class}
-use Rattle.postscript.specs.Skips.{Skipped}
-use Rattle.postscript.specs.declared.open.Open.the-variants.{RanOut, LacksClose}
+use Rattle.syntax.specs.Skips.{Skipped}
+use Rattle.syntax.specs.declared.open.Open.the-variants.{RanOut, LacksClose}
 
 pub none-first : (bs : List ℕ) → isSome (first bs) ≡ false → bs ≡ []
 none-first [] e = refl
@@ -40,14 +41,15 @@ hex-past d (b ∷ bs) = step (eqb b 62) refl (hex-past d bs)
     step true k ih = rw k
     step false k ih = ih
 
-pub hex-out : (m : Meaning) → isSome (first (past (other-than 62) (m .to-come))) ≡ false → Skipped hex (Err RanOut) m (past-class (other-than 62) m)
-hex-out m e = let n = none-first (past (other-than 62) (m .to-come)) e in record { finds = λ d. hex-past d (m .to-come) ∙ ap (hex d) n; spent = n; moved = moved-class (other-than 62) m }
+pub hex-out : (m : Meaning) → isSome (first (past (other-than 62) (m .to-come))) ≡ false → Skipped hex 1 (Err RanOut) m (past-class (other-than 62) m)
+hex-out m e = let n = none-first (past (other-than 62) (m .to-come)) e in record { finds = λ d. hex-past d (m .to-come) ∙ ap (hex d) n; spent = n; closes = tt; moved = moved-class (other-than 62) m }
 
-pub hex-closed : (m : Meaning) → isSome (first (past (other-than 62) (m .to-come))) ≡ true → Skipped hex (Ok tt) m (stepped (past-class (other-than 62) m))
+pub hex-closed : (m : Meaning) → isSome (first (past (other-than 62) (m .to-come))) ≡ true → Skipped hex 1 (Ok tt) m (stepped (past-class (other-than 62) m))
 hex-closed m e =
     record {
       finds = λ d. hex-past d (m .to-come) ∙ ap (hex d) (closer-first 62 (m .to-come) e);
       spent = tt;
+      closes = rw (closer-first 62 (m .to-come) e) (omega arith);
       moved = moved-on (moved-class (other-than 62) m) (moved-step (past-class (other-than 62) m));
     }
 
@@ -64,25 +66,31 @@ module _ (m : Meaning) where
   tilde-moved : Moved m (stepped (past-class (other-than 126) m))
   tilde-moved = moved-on (moved-class (other-than 126) m) (moved-step (past-class (other-than 126) m))
 
-  pub ascii85-out : None ≡ first (rest (past (other-than 126) (m .to-come))) → Skipped ascii85 (Err RanOut) m (stepped (past-class (other-than 126) m))
-  ascii85-out e = let n = none-first (rest (past (other-than 126) (m .to-come))) (ap isSome (sym e)) in record { finds = λ d. ascii85-past d (m .to-come) ∙ ap (tilde d) n; spent = n; moved = tilde-moved }
+  pub ascii85-out : None ≡ first (rest (past (other-than 126) (m .to-come))) → Skipped ascii85 2 (Err RanOut) m (stepped (past-class (other-than 126) m))
+  ascii85-out e = let n = none-first (rest (past (other-than 126) (m .to-come))) (ap isSome (sym e)) in record { finds = λ d. ascii85-past d (m .to-come) ∙ ap (tilde d) n; spent = n; closes = tt; moved = tilde-moved }
 
   lacks : (b : ℕ) (bs : List ℕ) (d : ℕ) → Some b ≡ first bs → (b ≡ 62 → ⊥) → tilde d bs ≡ lacking bs
   lacks b [] d e h = grind arith
   lacks b (x ∷ bs) d e h = let q : x ≡ b = cc in let k : eqb x 62 ≡ false = rw q (ne-eqb b 62 h) in rw k
 
-  pub ascii85-lacks : (b : ℕ) → Some b ≡ first (rest (past (other-than 126) (m .to-come))) → (b ≡ 62 → ⊥) → Skipped ascii85 (Err LacksClose) m (stepped (past-class (other-than 126) m))
-  ascii85-lacks b e h = record { finds = λ d. ascii85-past d (m .to-come) ∙ lacks b (rest (past (other-than 126) (m .to-come))) d e h; spent = tt; moved = tilde-moved }
+  pub ascii85-lacks : (b : ℕ) → Some b ≡ first (rest (past (other-than 126) (m .to-come))) → (b ≡ 62 → ⊥) → Skipped ascii85 2 (Err LacksClose) m (stepped (past-class (other-than 126) m))
+  ascii85-lacks b e h = record { finds = λ d. ascii85-past d (m .to-come) ∙ lacks b (rest (past (other-than 126) (m .to-come))) d e h; spent = tt; closes = tt; moved = tilde-moved }
 
   closes : (b : ℕ) (bs : List ℕ) (d : ℕ) → Some b ≡ first bs → b ≡ 62 → tilde d bs ≡ items d (rest bs)
   closes b [] d e h = grind arith
   closes b (x ∷ bs) d e h = let q : x ≡ 62 = cc in rw q
 
-  pub ascii85-closed : (b : ℕ) → Some b ≡ first (rest (past (other-than 126) (m .to-come))) → b ≡ 62 → Skipped ascii85 (Ok tt) m (stepped (stepped (past-class (other-than 126) m)))
+  two-bytes : (b : ℕ) (q : List ℕ) → Some b ≡ first (rest q) → m .place + 2 ≤ m .place + length (front (other-than 126) (m .to-come)) + pace q + pace (rest q)
+  two-bytes b [] e = grind arith
+  two-bytes b (x ∷ []) e = grind arith
+  two-bytes b (x ∷ y ∷ q) e = omega arith
+
+  pub ascii85-closed : (b : ℕ) → Some b ≡ first (rest (past (other-than 126) (m .to-come))) → b ≡ 62 → Skipped ascii85 2 (Ok tt) m (stepped (stepped (past-class (other-than 126) m)))
   ascii85-closed b e h =
       record {
         finds = λ d. ascii85-past d (m .to-come) ∙ closes b (rest (past (other-than 126) (m .to-come))) d e h;
         spent = tt;
+        closes = two-bytes b (past (other-than 126) (m .to-come)) e;
         moved = moved-on tilde-moved (moved-step (stepped (past-class (other-than 126) m)));
       }
 

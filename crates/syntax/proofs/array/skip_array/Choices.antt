@@ -4,7 +4,7 @@ use lib.ListN.{length}
 use Rattle.definitions.specs.Moves.{Moved}
 use Rattle.definitions.specs.Scan.{items}
 use Rattle.definitions.specs.Sources.{limit}
-use Rattle.postscript.proofs.array.skip_array.Given as given
+use Rattle.syntax.proofs.array.skip_array.Given as given
 
 -- the scan of what is left, at this depth, comes to what the whole scan does; and the depth cannot overflow
 abbrev pub Inv-array : given.InvT-array

@@ -5,9 +5,9 @@ use lib.ListN.{length}
 use Rattle.std.specs.declared.option.Option.the-variants.{Some}
 use Rattle.definitions.specs.Sources.{Meaning}
 use Rattle.reader.proofs.Moves.{moved-on, moved-class}
-use Rattle.postscript.proofs.GapSteps.{comment-shorter}
-use Rattle.postscript.proofs.SkipSteps.{comment-skipped}
-use Rattle.postscript.proofs.array.skip_array.Needs as need
+use Rattle.syntax.proofs.GapSteps.{comment-shorter}
+use Rattle.syntax.proofs.SkipSteps.{comment-skipped}
+use Rattle.syntax.proofs.array.skip_array.Needs as need
 
 pub array-less-in-37 : need.array-less-in-37
 array-less-in-37 g c =

@@ -2,7 +2,7 @@ use mathlib.Core.Path.{_≡_}
 use lib.ListN.{length}
 use Rattle.definitions.specs.Moves.{Moved}
 use Rattle.definitions.specs.Gaps.{after-gap}
-use Rattle.postscript.proofs.gap.pass_gap.Given as given
+use Rattle.syntax.proofs.gap.pass_gap.Given as given
 
 -- after what is left of the gap stands what stood after the whole of it
 abbrev pub Inv-gap : given.InvT-gap

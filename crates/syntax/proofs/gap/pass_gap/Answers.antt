@@ -5,8 +5,8 @@ use Rattle.std.specs.declared.option.Option.the-variants.{Some}
 use Rattle.definitions.specs.Sources.{Meaning}
 use Rattle.definitions.specs.Gaps.{after-gap}
 use Rattle.reader.proofs.Moves.{moved-on, moved-class}
-use Rattle.postscript.proofs.GapSteps.{gap-passed, comment-passed, comment-shorter}
-use Rattle.postscript.proofs.gap.pass_gap.Needs as need
+use Rattle.syntax.proofs.GapSteps.{gap-passed, comment-passed, comment-shorter}
+use Rattle.syntax.proofs.gap.pass_gap.Needs as need
 
 pub gap-less-in-37 : need.gap-less-in-37
 gap-less-in-37 g c =

@@ -4,19 +4,19 @@ use Rattle.std.specs.Options.{isSome}
 use Rattle.definitions.specs.Moves.{first, stepped}
 use Rattle.definitions.specs.Scan.{hex}
 use Rattle.definitions.specs.Sources.{Meaning}
-use Rattle.postscript.specs.Skips.{Skipped}
-use Rattle.postscript.specs.declared.open.Open.the-variants.{RanOut}
-use Rattle.postscript.proofs.SkipSteps.{hex-out, hex-closed}
-use Rattle.postscript.proofs.string.skip_hex.Needs as need
+use Rattle.syntax.specs.Skips.{Skipped}
+use Rattle.syntax.specs.declared.open.Open.the-variants.{RanOut}
+use Rattle.syntax.proofs.SkipSteps.{hex-out, hex-closed}
+use Rattle.syntax.proofs.string.skip_hex.Needs as need
 
 pub returns-then-is-none : need.returns-then-is-none
 returns-then-is-none g c =
     let m = g .S·Source .meaning (c .args .source .now) in
     let e = ap (λ (n : Meaning). isSome (first (n .to-come))) (sym (c .pass .ensures)) ∙ ap isSome (sym (c .peek .ensures)) ∙ c .if-is-none .ensures tt in
-    subst (Skipped hex (Err RanOut) m) (sym (c .pass .ensures)) (hex-out m e)
+    subst (Skipped hex 1 (Err RanOut) m) (sym (c .pass .ensures)) (hex-out m e)
 
 pub returns : need.returns
 returns g c =
     let m = g .S·Source .meaning (c .args .source .now) in
     let e = ap (λ (n : Meaning). isSome (first (n .to-come))) (sym (c .pass .ensures)) ∙ ap isSome (sym (c .peek .ensures)) ∙ c .if-is-none .ensures tt in
-    subst (Skipped hex (Ok tt) m) (sym (c .step .ensures ∙ ap stepped (c .pass .ensures))) (hex-closed m e)
+    subst (Skipped hex 1 (Ok tt) m) (sym (c .step .ensures ∙ ap stepped (c .pass .ensures))) (hex-closed m e)

@@ -1,0 +1,2 @@
+pub mod GapSteps
+pub mod SkipSteps

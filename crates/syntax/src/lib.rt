@@ -1,0 +1,4 @@
+pub mod array;
+pub mod gap;
+pub mod open;
+pub mod string;
