@@ -1,14 +1,14 @@
 -- What is proved of the definitions: each has exactly one result. Assumes nothing.
 use mathlib.Core.List.{List, _++_}
 use mathlib.Core.Logic.{_⊎_}
-use mathlib.Core.Bool.{Bool}
+use mathlib.Core.Bool.{Bool, cond}
 use mathlib.Core.Path.{_≡_}
 use Prim.Native.Nat.{ℕ, _≤_}
-use lib.Dec.{T}
+use lib.Dec.{T, leb}
 use lib.IntN.{ℤ}
 use lib.ListN.{length, take}
 use Rattle.definitions.specs.Bytes.{All, Outside, front, past}
-use Rattle.definitions.specs.Sources.{Ending, Meaning, In-limit, lent, window, eexec}
+use Rattle.definitions.specs.Sources.{Ending, Meaning, In-limit, if-there, lent, window, eexec}
 use Rattle.definitions.specs.Moves.{stepped, past-class, Passed}
 use Rattle.definitions.specs.Gaps.{Gap, Past-gap, after-gap}
 use Rattle.definitions.specs.Numbers.{Reading, Reads}
@@ -25,6 +25,10 @@ use Rattle.definitions.specs.Listing.{Written, decimal, Line, line, Listed, In
 -- bytes are a front of a class and a rest that does not begin with a byte of it, in one way
 abbrev pub One-front : Type 0
 One-front = (c : ℕ → Bool) (bs : List ℕ) → (front c bs ++ past c bs ≡ bs) × All c (front c bs) × Outside c (past c bs) × ((u r : List ℕ) → u ++ r ≡ bs → All c u → Outside c r → (u ≡ front c bs) × (r ≡ past c bs))
+
+-- the recursion on the bytes asks what a test of their count would
+abbrev pub There-tests : Type 0
+There-tests = (n : ℕ) (bs : List ℕ) (there fewer : Ending) → if-there n bs there fewer ≡ cond (leb n (length bs)) there fewer
 
 -- lent bytes are within the limit
 abbrev pub Lent-in-limit : Type 0

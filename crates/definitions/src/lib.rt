@@ -1,4 +1,4 @@
-ghost use Rattle.definitions.specs.Laws.{One-front, Lent-in-limit, Window-in-limit, Eexec-in-limit, Step-passes, Class-passes, Passed-in-limit};
+ghost use Rattle.definitions.specs.Laws.{One-front, There-tests, Lent-in-limit, Window-in-limit, Eexec-in-limit, Step-passes, Class-passes, Passed-in-limit};
 ghost use Rattle.definitions.specs.Laws.{One-gap, Gap-computed, One-reading, Reading-computed, One-each-gap, Outcome-computed, One-nearest, One-integer, Decodes-or-ends, Never-both, Text-decodes, One-decoding, Decoding-computed, One-decoded-source, One-decoded-object, One-answer, One-turn, One-run, Run-is-shared};
 ghost use Rattle.definitions.specs.Laws.{One-text, One-line, Line-fits, Turn-fits, One-writing};
 ghost use Rattle.definitions.specs.Worked.{Worked};
@@ -6,6 +6,7 @@ ghost use Rattle.definitions.specs.Worked.{Worked};
 // the theorems of sources: what a class passes, the limit of each layer, and what a move passes
 pub fn sources_stand() -> u8
     ensures class { λ _. ⌜ One-front ⌝ }
+    ensures there { λ _. ⌜ There-tests ⌝ }
     ensures lent { λ _. ⌜ Lent-in-limit ⌝ }
     ensures window { λ _. ⌜ Window-in-limit ⌝ }
     ensures eexec { λ _. ⌜ Eexec-in-limit ⌝ }
