@@ -1,5 +1,7 @@
 ghost use Rattle.definitions.specs.Laws.{One-front, There-tests, Lent-in-limit, Window-in-limit, Eexec-in-limit, Step-passes, Class-passes, Passed-in-limit};
-ghost use Rattle.definitions.specs.Laws.{One-gap, Gap-computed, One-reading, Reading-computed, One-each-gap, Outcome-computed, One-nearest, One-integer, Decodes-or-ends, Never-both, Text-decodes, One-decoding, Decoding-computed, One-decoded-source, One-decoded-object, One-answer, One-turn, One-run, Run-is-shared};
+ghost use Rattle.definitions.specs.Laws.{One-gap, Gap-computed, One-reading, Reading-computed, One-each-gap, Outcome-computed, Two-exactly};
+ghost use Rattle.definitions.specs.Laws.{Decodes-or-ends, Never-both, Text-decodes, One-decoding, Decoding-computed, One-decoded-source, One-decoded-object};
+ghost use Rattle.definitions.specs.Laws.{One-nearest, One-integer, One-answer, One-turn, Parted-computed, Takes-computed, Refuses-computed, Looks-computed, One-run, Run-is-shared};
 ghost use Rattle.definitions.specs.Laws.{One-text, One-line, Line-fits, Turn-fits, One-writing};
 ghost use Rattle.definitions.specs.Worked.{Worked};
 
@@ -25,6 +27,7 @@ pub fn grammar_stands() -> u8
     ensures passes { λ _. ⌜ Gap-computed ⌝ }
     ensures reads { λ _. ⌜ Reading-computed ⌝ }
     ensures comes { λ _. ⌜ Outcome-computed ⌝ }
+    ensures two { λ _. ⌜ Two-exactly ⌝ }
 {
     0
 }
@@ -48,6 +51,10 @@ pub fn reader_stands() -> u8
     ensures integer { λ _. ⌜ One-integer ⌝ }
     ensures answer { λ _. ⌜ One-answer ⌝ }
     ensures turn { λ _. ⌜ One-turn ⌝ }
+    ensures parts { λ _. ⌜ Parted-computed ⌝ }
+    ensures takes { λ _. ⌜ Takes-computed ⌝ }
+    ensures refuses { λ _. ⌜ Refuses-computed ⌝ }
+    ensures looks { λ _. ⌜ Looks-computed ⌝ }
     ensures run { λ _. ⌜ One-run ⌝ }
     ensures shared { λ _. ⌜ Run-is-shared ⌝ }
 {
