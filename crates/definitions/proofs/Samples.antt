@@ -14,10 +14,11 @@ use Rattle.definitions.specs.Singles.{Nearest, to-integer}
 use Rattle.definitions.specs.LiteralText.{Decodes, Ends-in-backslash}
 use Rattle.definitions.specs.PlainReader.{object, refusal, yes-no}
 use Rattle.definitions.specs.Decoder.{turned-down, Decodes-into}
-use Rattle.definitions.specs.Listing.{Line}
+use Rattle.definitions.specs.Listing.{Line, Lists}
 use Rattle.definitions.proofs.ReadsOnce.{reads}
 use Rattle.definitions.proofs.Singles.{nearest-down}
 use Rattle.definitions.proofs.Listing.{lined}
+use Rattle.definitions.proofs.Listings.{listed}
 
 -- 16777216, -2.5, 0.99999994, 2 ^ 31, -2 ^ 31, both infinities, no number
 whole : to-integer 0x4B800000 ≡ pos 16777216
@@ -142,3 +143,10 @@ refused-line = lined 0 _ tt
 
 end-line : Line 21 (yes-no true) (codes "end,21" ++ (10 ∷ []))
 end-line = lined 21 _ tt
+
+-- a whole listing
+five-lines : Lists (lent (codes "/w 12 [ (a]) ]%x" ++ (0x0C ∷ codes "8#17"))) (codes "4,0,2,1" ++ (10 ∷ (codes "1,3,5,12" ++ (10 ∷ (codes "8,6,14,6" ++ (10 ∷ (codes "1,17,21,15" ++ (10 ∷ (codes "end,21" ++ (10 ∷ []))))))))))
+five-lines = listed (lent (codes "/w 12 [ (a]) ]%x" ++ (0x0C ∷ codes "8#17")))
+
+one-line : Lists (lent (codes "(")) (codes "refused,2,0" ++ (10 ∷ []))
+one-line = listed (lent (codes "("))

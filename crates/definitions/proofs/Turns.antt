@@ -29,7 +29,7 @@ parted-as s =
     let k : gap-of bs ≡ g = before-is g (after-gap bs) bs e in
     record { cut = ap (λ l. l ++ after-gap bs) k ∙ e; gap = subst (λ l. Gap l (after-gap bs)) (sym k) x; past = p }
 
-comes-as : (s : Meaning) (o : Outcome) → outcome (after-gap (s .to-come)) (s .ending) ≡ o → Comes-to (after-gap (s .to-come)) (s .ending) o
+pub comes-as : (s : Meaning) (o : Outcome) → outcome (after-gap (s .to-come)) (s .ending) ≡ o → Comes-to (after-gap (s .to-come)) (s .ending) o
 comes-as s o e = subst (Comes-to (after-gap (s .to-come)) (s .ending)) e (comes (after-gap (s .to-come)) (s .ending) (parted-as s .past))
 
 pub takes-as : (s : Meaning) (p : Parser) (o : Shown) (rest : List ℕ) (answer : Answer)

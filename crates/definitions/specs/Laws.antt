@@ -20,7 +20,7 @@ use Rattle.definitions.specs.Singles.{Nearest, Integer-of, to-integer}
 use Rattle.definitions.specs.PlainReader.{Parser, Call, parses, at-end, Handed, Answer, refusal, yes-no, Judges, Piece, gap, taken, refused, carried, at-clean-end, after, Parted, Turn}
 use Rattle.definitions.specs.Decoder.{Told, Decodes-source, Decodes-object}
 use Rattle.definitions.specs.SharedRun.{Run, Shared}
-use Rattle.definitions.specs.Listing.{Written, decimal, Line, line, Listed, In-range, Writes-line}
+use Rattle.definitions.specs.Listing.{Written, decimal, Line, line, Listed, In-range, Writes-line, Lists, listing}
 
 -- bytes are a front of a class and a rest that does not begin with a byte of it, in one way
 abbrev pub One-front : Type 0
@@ -174,3 +174,7 @@ Turn-fits = (s : Meaning) (call : Call) (a : Answer) (p : List Piece) (t : Meani
 -- a line is written into a buffer in one way, and one of at most 48 bytes leaves the buffer as long as it was
 abbrev pub One-writing : Type 0
 One-writing = (buffer text : List ℕ) → (told : Told) × (after : List ℕ) × Writes-line buffer text told after × (length text ≤ 48 → length after ≡ length buffer) × ((t : Told) (a : List ℕ) → Writes-line buffer text t a → (t ≡ told) × (a ≡ after))
+
+-- a source has one listing, which is computed
+abbrev pub One-listing : Type 0
+One-listing = (s : Meaning) → Lists s (listing s) × ((text : List ℕ) → Lists s text → text ≡ listing s)

@@ -2,7 +2,7 @@ ghost use Rattle.definitions.specs.Laws.{One-front, There-tests, Lent-in-limit
 ghost use Rattle.definitions.specs.Laws.{One-gap, Gap-computed, One-reading, Reading-computed, One-each-gap, Outcome-computed, Two-exactly};
 ghost use Rattle.definitions.specs.Laws.{Decodes-or-ends, Never-both, Text-decodes, One-decoding, Decoding-computed, One-decoded-source, One-decoded-object};
 ghost use Rattle.definitions.specs.Laws.{One-nearest, One-integer, One-answer, One-turn, Parted-computed, Takes-computed, Refuses-computed, Looks-computed, One-run, Run-is-shared};
-ghost use Rattle.definitions.specs.Laws.{One-text, One-line, Line-fits, Turn-fits, One-writing};
+ghost use Rattle.definitions.specs.Laws.{One-text, One-line, Line-fits, Turn-fits, One-writing, One-listing};
 ghost use Rattle.definitions.specs.Worked.{Worked};
 
 // the theorems of sources: what a class passes, the limit of each layer, and what a move passes
@@ -68,6 +68,7 @@ pub fn listing_stands() -> u8
     ensures fits { λ _. ⌜ Line-fits ⌝ }
     ensures turns { λ _. ⌜ Turn-fits ⌝ }
     ensures writes { λ _. ⌜ One-writing ⌝ }
+    ensures listing { λ _. ⌜ One-listing ⌝ }
 {
     0
 }
