@@ -151,6 +151,10 @@ Looks-computed = (s : Meaning) → Turn s at-end (yes-no (at-clean-end (after-ga
 abbrev pub One-run : Type 0
 One-run = (s : Meaning) (calls : List Call) → (a : List Answer) × (p : List Piece) × (t : Meaning) × Run s calls a p t × ((b : List Answer) (q : List Piece) (u : Meaning) → Run s calls b q u → (b ≡ a) × (q ≡ p) × (u ≡ t))
 
+-- a run over a source within the limit stays within it
+abbrev pub Run-in-limit : Type 0
+Run-in-limit = (s : Meaning) (calls : List Call) (a : List Answer) (p : List Piece) (t : Meaning) → Run s calls a p t → In-limit s → In-limit t
+
 -- a run has all of the law of a shared scanner
 abbrev pub Run-is-shared : Type 0
 Run-is-shared = (s : Meaning) (calls : List Call) (a : List Answer) (p : List Piece) (t : Meaning) → Run s calls a p t → Shared s calls a p t

@@ -4,7 +4,7 @@ use Rattle.definitions.proofs.Singles.{some-nearest, one-nearest}
 use Rattle.definitions.proofs.Sole.{one-answer, one-turn, sole}
 use Rattle.definitions.proofs.Total.{some-answer, some-turn, some-run}
 use Rattle.definitions.proofs.Turns.{parted-as, takes-as, refuses-as, looks-as}
-use Rattle.definitions.proofs.Whole.{shared}
+use Rattle.definitions.proofs.Whole.{run-limit, shared}
 use Rattle.definitions.proofs.reader_stands.Needs as need
 
 pub returns : need.returns
@@ -18,5 +18,6 @@ returns c = record {
   refuses = refuses-as;
   looks = looks-as;
   run = λ s calls. let (a, p, t, x) = some-run calls s in (a, p, t, x, sole x);
+  stays = λ s calls a p t x h. run-limit x h;
   shared = λ s calls a p t x. shared x;
 }
