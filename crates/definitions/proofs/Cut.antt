@@ -1,7 +1,7 @@
 -- The pieces of a run, joined, are the bytes that it passed. Assumes nothing.
 use mathlib.Core.List.{List, [], _∷_, _++_, append-assoc, append-nil}
 use mathlib.Core.Path.{_≡_, refl, sym, ap, _∙_}
-use Prim.Native.Nat.{ℕ, _+_}
+use Prim.Native.Nat.{ℕ}
 use Rattle.definitions.specs.Sources.{Meaning, Ending}
 use Rattle.definitions.specs.Grammar.{Shown, Begins, string, array, literal-name, run, Run-shows, integer-run, real-run, name-run, Refuses, missing, tilde, unclosed, stray, stray-angle, last-angle, beyond-limits, brace, fault-in-gap, fault-after-angle, fault-in-run, fault-in-name, fault-in-object}
 use Rattle.definitions.specs.Numbers.{Reading}

@@ -1,18 +1,18 @@
 -- Each form of a number is a test on the run: what is of the form passes, and what passes is of the form. Assumes nothing.
-use mathlib.Core.Bool.{Bool, true, false, not, cond, _||_, _&&_}
+use mathlib.Core.Bool.{Bool, true, false, _||_, _&&_}
 use mathlib.Core.List.{List, [], _∷_, _++_}
 use mathlib.Core.Logic.{_⊎_, inl, inr}
 use mathlib.Core.Path.{_≡_, refl, sym, ap, ap₂, subst, _∙_}
-use Prim.Native.Nat.{ℕ, _+_, _<_}
+use Prim.Native.Nat.{ℕ, _<_}
 use native.Mathlib.Omega.{arith}
 use lib.Dec.{T, eqb, eqb→eq, leb, ltb, leb→le}
 use lib.IntN.{ℤ}
 use lib.ListN.{length, drop}
 use Rattle.std.proofs.shelf.Tests.{le-leb}
-use Rattle.definitions.specs.Bytes.{All, digit, Outside, front, past}
+use Rattle.definitions.specs.Bytes.{All, digit, front, past}
 use Rattle.definitions.specs.Numbers.{digit-worth, value, Sign, Digits, Integer-form, Radix-form, Fraction, Exponent, Real-form}
 use Rattle.definitions.specs.Readings.{first-is, unsigned, fraction, past-fraction, exponent, c-of, k-of, every, some, digits?, exponent?, real?, base, radix?}
-use Rattle.definitions.proofs.Bytes.{is-true, T-from, front-is, past-is, front-all, front-past}
+use Rattle.definitions.proofs.Bytes.{is-true, front-is, past-is, front-all, front-past}
 use Rattle.definitions.proofs.Until.{is-it}
 use Rattle.definitions.proofs.Readings.{unsigned-is, digits-no-sign, body-starts, fraction-starts, fraction-is, parts}
 

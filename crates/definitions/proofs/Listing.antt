@@ -1,5 +1,5 @@
 -- A number has one text and a listing's answer one line, which is computed, and which fits 48 bytes. Assumes nothing.
-use mathlib.Core.Bool.{Bool, true, false, cond}
+use mathlib.Core.Bool.{Bool, true, false}
 use mathlib.Core.List.{List, [], _∷_, _++_, append-assoc, append-nil}
 use mathlib.Core.Logic.{_⊎_, inl, inr}
 use mathlib.Core.Path.{_≡_, refl, sym, ap, ap₂, subst, subst₂, _∙_}
@@ -7,17 +7,17 @@ use Prim.Native.Nat.{ℕ, zero, suc, _+_, _-_, _*_, _/_, _%_, _^_, _≤_, _<_}
 use native.Mathlib.Nat.{pow-succ'}
 use native.Mathlib.Omega.{arith}
 use lib.Chars.{codes}
-use lib.Dec.{T, leb, ltb, leb→le}
+use lib.Dec.{T, leb, leb→le}
 use lib.IntN.{ℤ, pos, negsuc}
 use lib.ListN.{length, length-append, length-drop, drop}
 use Rattle.std.proofs.shelf.Tests.{cases-lt, lt-ltb, le-ltb, le-leb}
 use Rattle.definitions.specs.Bytes.{All, digit, within}
 use Rattle.definitions.specs.Numbers.{digit-worth, value-after, value}
-use Rattle.definitions.specs.Sources.{Ending, limit}
+use Rattle.definitions.specs.Sources.{limit}
 use Rattle.definitions.specs.Grammar.{Value, none, integer-value, real-value}
-use Rattle.definitions.specs.PlainReader.{Handed, Answer, object, integer-number, real-number, refusal, yes-no}
+use Rattle.definitions.specs.PlainReader.{Answer, object, integer-number, real-number, refusal, yes-no}
 use Rattle.definitions.specs.Decoder.{Told}
-use Rattle.definitions.specs.Listing.{Written, zero-digit, some-digits, Written-signed, unsigned, negative, minus-if, Written-value, of-integer, of-real, of-inside, Line, of-object, of-refusal, of-end, Writes-line, too-short, writes, digits-by, decimal, signed-decimal, value-text, line, Listed, Value-in-range, Object-in-range, In-range}
+use Rattle.definitions.specs.Listing.{Written, zero-digit, some-digits, Written-signed, unsigned, negative, minus-if, Written-value, of-integer, of-real, of-inside, Line, of-object, of-refusal, of-end, Writes-line, too-short, writes, digits-by, decimal, signed-decimal, value-text, line, Listed, Value-in-range, In-range}
 use lib.Signed.{leZ}
 use Rattle.definitions.proofs.Bytes.{is-true, T-from}
 use Rattle.definitions.proofs.Readings.{parts, both}

@@ -1,17 +1,17 @@
 -- After a gap an object, or a ~ that lacks its >, forces the outcome that is computed. Assumes nothing.
-use mathlib.Core.Bool.{cond, _||_}
+use mathlib.Core.Bool.{_||_}
 use mathlib.Core.List.{List, [], _∷_, _++_, append-assoc}
-use mathlib.Core.Path.{_≡_, refl, sym, ap, ap₂, subst, _∙_}
-use Prim.Native.Nat.{ℕ, _+_, _-_, _<_}
+use mathlib.Core.Path.{_≡_, refl, sym, ap, ap₂, _∙_}
+use Prim.Native.Nat.{ℕ, _-_, _<_}
 use native.Mathlib.Omega.{arith}
 use lib.Dec.{T, eqb}
 use lib.ListN.{length, length-append, take}
-use Rattle.definitions.specs.Bytes.{All, regular, Outside, front, past}
-use Rattle.definitions.specs.Sources.{Ending, clean, fault}
-use Rattle.definitions.specs.Numbers.{Reading, Reads}
+use Rattle.definitions.specs.Bytes.{All, regular, Outside}
+use Rattle.definitions.specs.Sources.{Ending}
+use Rattle.definitions.specs.Numbers.{Reading}
 use Rattle.definitions.specs.Readings.{reading}
-use Rattle.definitions.specs.Grammar.{String, Hex-head, Shown, Run-stops, Run-shows, integer-run, real-run, name-run, Begins, To-tilde, Lacks-close, opener, closer, Outcome, an-object, a-refusal}
-use Rattle.definitions.specs.Scan.{Found, closed, lacking, first}
+use Rattle.definitions.specs.Grammar.{String, Hex-head, Shown, Run-stops, Run-shows, integer-run, real-run, name-run, Begins, To-tilde, Lacks-close, opener, closer, an-object, a-refusal}
+use Rattle.definitions.specs.Scan.{closed, first}
 use Rattle.definitions.specs.Outcomes.{chop, before, shown, angled, shown-of, of-opener, of-name, of-reading, of-run, outcome}
 use Rattle.definitions.proofs.Bytes.{is-true, is-false, no, at, either, or-right, front-is, past-is}
 use Rattle.definitions.proofs.Scan.{top, string-first, items-pass, tilde-first}

@@ -2,8 +2,8 @@
 use mathlib.Core.Bool.{Bool, true, false, not, _||_, _&&_}
 use mathlib.Core.List.{List, [], _∷_, _++_, append-assoc, append-nil}
 use mathlib.Core.Logic.{_⊎_, inl, inr}
-use mathlib.Core.Path.{_≡_, refl, sym, ap, ap₂, subst, subst₂, _∙_}
-use Prim.Native.Nat.{ℕ, _+_, _<_}
+use mathlib.Core.Path.{_≡_, refl, sym, ap, subst, subst₂, _∙_}
+use Prim.Native.Nat.{ℕ, _<_}
 use native.Mathlib.Omega.{arith}
 use lib.Dec.{T, eqb, eqb→eq}
 use lib.ListN.{length}
@@ -14,7 +14,7 @@ use Rattle.definitions.specs.Numbers.{Reading, integer, real, past-limits, nam
 use Rattle.definitions.specs.Readings.{reading}
 use Rattle.definitions.specs.Grammar.{String, Shown, Run-stops, integer-run, real-run, name-run, Begins, To-tilde, Lacks-close, opener, closer, Unclosed, Refuses, Outcome, an-object, a-refusal, Comes-to, One-outcome}
 use Rattle.definitions.specs.Scan.{Found, closed, lacking, out, items, text, first}
-use Rattle.definitions.specs.Outcomes.{unclosed-number, of-opener, of-name, of-reading, of-run, outcome}
+use Rattle.definitions.specs.Outcomes.{unclosed-number, of-opener, of-reading, outcome}
 use Rattle.definitions.proofs.Bytes.{is-true, is-false, T-from, at, either, or-left, or-right, front-all, past-outside, front-past}
 use Rattle.definitions.proofs.Until.{Texts, is-it, T-not-from, text-ends, angle-ends, Angle-ends, runs-out, marks, strings, tildes}
 use Rattle.definitions.proofs.Rows.{Result, finds}
@@ -90,9 +90,6 @@ refusal-is (Refuses.fault-in-object {l = l} {c = c} {b = b} {bs = bs} h g x) =
 pub outcome-is : {bs : List ℕ} {e : Ending} {o : Outcome} → Comes-to bs e o → outcome bs e ≡ o
 outcome-is (Comes-to.begins x) = object-is x
 outcome-is (Comes-to.refuses x) = refusal-is x
-
-pub one-came : {bs : List ℕ} {e : Ending} {o p : Outcome} → Comes-to bs e o → Comes-to bs e p → o ≡ p
-one-came x y = sym (outcome-is x) ∙ outcome-is y
 
 pub one-object : {bs : List ℕ} {e : Ending} {o p : Shown} {q r : List ℕ} → Begins bs e o q → Begins bs e p r → (o ≡ p) × (q ≡ r)
 one-object {o = o} {p = p} {q = q} {r = r} x y = let k : an-object o q ≡ an-object p r = sym (object-is x) ∙ object-is y in (cc, cc)

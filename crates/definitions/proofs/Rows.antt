@@ -75,7 +75,7 @@ ends d w e = subst (Result (suc d) w) (sym e) tt
 one-item : {k : ℕ} {s i : List ℕ} → String k s i → Items s
 one-item {s = s} x = subst Items (append-nil s) (Items.string x Items.end)
 
-string-long : {k : ℕ} {s i : List ℕ} → String k s i → 0 < length s
+pub string-long : {k : ℕ} {s i : List ℕ} → String k s i → 0 < length s
 string-long (String.literal x) = omega arith
 string-long (String.hex u h a) = omega arith
 string-long (String.ascii85 u a) = omega arith

@@ -2,11 +2,11 @@
 use mathlib.Core.Bool.{not}
 use mathlib.Core.List.{List, [], _∷_, _++_, append-assoc}
 use mathlib.Core.Path.{_≡_, refl, ap, _∙_}
-use Prim.Native.Nat.{ℕ, zero, suc}
+use Prim.Native.Nat.{ℕ, suc}
 use lib.Dec.{T, eqb}
 use Rattle.definitions.specs.Bytes.{All, comment-end, other-than}
 use Rattle.definitions.specs.Grammar.{plain, loose, Text, String, Hex-head, Items, Open-items, To-tilde, Lacks-close}
-use Rattle.definitions.specs.Scan.{Found, closed, lacking, out, items, text, angle, hex, ascii85, tilde, comment, first}
+use Rattle.definitions.specs.Scan.{Found, closed, lacking, items, text, angle, hex, ascii85, tilde, comment, first}
 use Rattle.definitions.proofs.Bytes.{is-true, is-false, no, or-left, or-right}
 
 pub text-passes : {u : List ℕ} → Text u → (d n : ℕ) (r : List ℕ) → text d n (u ++ r) ≡ text d n r

@@ -4,7 +4,7 @@ use mathlib.Core.Path.{_≡_, refl, sym, ap, ap₂, subst, _∙_}
 use Prim.Native.Nat.{ℕ, _+_, _-_, _≤_}
 use native.Mathlib.Omega.{arith}
 use lib.ListN.{length, length-append, take, drop}
-use Rattle.definitions.specs.Sources.{Ending, clean, Meaning, window, if-there}
+use Rattle.definitions.specs.Sources.{Ending, clean, Meaning, In-limit, window, if-there}
 use Rattle.definitions.specs.Grammar.{Text, String, Shown, Run-shows, Begins}
 use Rattle.definitions.specs.LiteralText.{Decodes}
 use Rattle.definitions.specs.PlainReader.{Parser, Call, Accepts, Handed, Answer, object, handed, Judges, Piece, joined, Turn}
@@ -28,6 +28,10 @@ run-place {s} (goes-on {u = u} ps qs a r) =
   where
     sums : (a b c : ℕ) → a + b + c ≡ a + (b + c)
     sums a b c = omega arith
+
+-- a run stays within the limit
+pub run-limit : {s : Meaning} {c : List Call} {x : List Answer} {p : List Piece} {t : Meaning} → Run s c x p t → In-limit s → In-limit t
+run-limit {p = p} {t = t} r h = omega (arith, run-place r .0, ap length (run-cut r), length-append (joined p) (t .to-come))
 
 -- an object handed over, where it stood
 pub record Stood (s : Meaning) (h : Handed) : Type 0 where

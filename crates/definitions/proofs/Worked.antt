@@ -1,32 +1,26 @@
 -- The worked cases hold: each is computed by the mirrors. Assumes nothing.
-use mathlib.Core.Bool.{false}
 use mathlib.Core.List.{[], _∷_, _++_}
 use mathlib.Core.Path.{refl}
-use native.Mathlib.Omega.{arith}
 use lib.Chars.{codes}
 use lib.Dec.{lit<, lit≤}
-use lib.IntN.{pos, negsuc}
+use lib.IntN.{pos}
 use Rattle.definitions.specs.Bytes.{regular}
 use Rattle.definitions.specs.Gaps.{Gap}
 use Rattle.definitions.specs.Sources.{clean}
-use Rattle.definitions.specs.Numbers.{past-limits, real, integer, name, Reads}
 use Rattle.definitions.specs.Grammar.{Items, Begins, Run-shows, Refuses}
 use Rattle.definitions.specs.Singles.{Nearest}
 use Rattle.definitions.specs.PlainReader.{Near, Judges, Accepts, Turn}
 use Rattle.definitions.specs.Worked.{Worked}
 use Rattle.definitions.proofs.Forms.{every-all}
 use Rattle.definitions.proofs.ReadsOnce.{reads}
-use Rattle.definitions.proofs.Singles.{nearest-up, nearest-down}
+use Rattle.definitions.proofs.Singles.{nearest-up}
 use Rattle.definitions.proofs.Decoding.{decodes-as}
 use Rattle.definitions.proofs.OutcomeTotal.{unclosed-from}
 use Rattle.definitions.proofs.Total.{not-object}
 
--- 16777217. is at a tie, and the even one is taken; 0.1 is at none
+-- 16777217. is at a tie, and the even one is taken
 tie : Nearest 16777217 (pos 0) 0x4B800000
 tie = nearest-up 16777217 0 0x4B7FFFFF (lit< tt) (record { closer = lit≤ tt; at-tie = λ e. refl }) (record { closer = lit≤ tt; at-tie = λ e. refl })
-
-tenth : Nearest 1 (negsuc 0) 0x3DCCCCCD
-tenth = nearest-down 1 0 0x3DCCCCCC (lit< tt) (record { closer = lit≤ tt; at-tie = λ e. absurd (omega arith) }) (record { closer = lit≤ tt; at-tie = λ e. absurd (omega arith) })
 
 pub worked : Worked
 worked = record {
@@ -48,31 +42,3 @@ worked = record {
   octal-digits = decodes-as (codes "\\0533") tt;
   octal-modulo = decodes-as (codes "\\400") tt;
 }
-
--- more readings, at the limits
-lowest : Reads (codes "-2147483648") (integer (negsuc 2147483647))
-lowest = reads (codes "-2147483648")
-
-radix-limit : Reads (codes "16#100000000") past-limits
-radix-limit = reads (codes "16#100000000")
-
-zero-exponent : Reads (codes "0e999") (real false 0 (pos 0))
-zero-exponent = reads (codes "0e999")
-
-last-exponent : Reads (codes "1e99") (real false 1 (pos 99))
-last-exponent = reads (codes "1e99")
-
-past-exponent : Reads (codes "1e100") past-limits
-past-exponent = reads (codes "1e100")
-
-last-digits : Reads (codes "999999999999999999") (real false 999999999999999999 (pos 0))
-last-digits = reads (codes "999999999999999999")
-
-past-digits : Reads (codes "1000000000000000000") past-limits
-past-digits = reads (codes "1000000000000000000")
-
-lone-sign : Reads (codes "+") name
-lone-sign = reads (codes "+")
-
-no-exponent : Reads (codes "1e") name
-no-exponent = reads (codes "1e")

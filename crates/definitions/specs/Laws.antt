@@ -1,30 +1,34 @@
 -- What is proved of the definitions: each has exactly one result. Assumes nothing.
-use mathlib.Core.List.{List, _++_}
+use mathlib.Core.List.{List, [], _∷_, _++_}
 use mathlib.Core.Logic.{_⊎_}
-use mathlib.Core.Bool.{Bool}
+use mathlib.Core.Bool.{Bool, cond}
 use mathlib.Core.Path.{_≡_}
-use Prim.Native.Nat.{ℕ, _≤_}
-use lib.Dec.{T}
+use Prim.Native.Nat.{ℕ, _+_, _≤_}
+use lib.Dec.{T, leb}
 use lib.IntN.{ℤ}
 use lib.ListN.{length, take}
 use Rattle.definitions.specs.Bytes.{All, Outside, front, past}
-use Rattle.definitions.specs.Sources.{Ending, Meaning, In-limit, lent, window, eexec}
+use Rattle.definitions.specs.Sources.{Ending, Meaning, In-limit, if-there, lent, window, eexec}
 use Rattle.definitions.specs.Moves.{stepped, past-class, Passed}
 use Rattle.definitions.specs.Gaps.{Gap, Past-gap, after-gap}
 use Rattle.definitions.specs.Numbers.{Reading, Reads}
 use Rattle.definitions.specs.Readings.{reading}
-use Rattle.definitions.specs.Grammar.{Text, Shown, Begins, Comes-to, One-outcome}
-use Rattle.definitions.specs.Outcomes.{outcome}
+use Rattle.definitions.specs.Grammar.{Text, Shown, Begins, opener, Refuses, an-object, a-refusal, Comes-to, One-outcome}
+use Rattle.definitions.specs.Outcomes.{gap-of, outcome}
 use Rattle.definitions.specs.LiteralText.{Decodes, Ends-in-backslash, paired, decode}
 use Rattle.definitions.specs.Singles.{Nearest, Integer-of, to-integer}
-use Rattle.definitions.specs.PlainReader.{Parser, Call, Handed, Answer, Judges, Piece, Parted, Turn}
+use Rattle.definitions.specs.PlainReader.{Parser, Call, parses, at-end, Handed, Answer, refusal, yes-no, Judges, Piece, gap, taken, refused, carried, at-clean-end, after, Parted, Turn}
 use Rattle.definitions.specs.Decoder.{Told, Decodes-source, Decodes-object}
 use Rattle.definitions.specs.SharedRun.{Run, Shared}
-use Rattle.definitions.specs.Listing.{Written, decimal, Line, line, Listed, In-range, Writes-line}
+use Rattle.definitions.specs.Listing.{Written, decimal, Line, line, Listed, In-range, Writes-line, Lists, listing}
 
 -- bytes are a front of a class and a rest that does not begin with a byte of it, in one way
 abbrev pub One-front : Type 0
 One-front = (c : ℕ → Bool) (bs : List ℕ) → (front c bs ++ past c bs ≡ bs) × All c (front c bs) × Outside c (past c bs) × ((u r : List ℕ) → u ++ r ≡ bs → All c u → Outside c r → (u ≡ front c bs) × (r ≡ past c bs))
+
+-- the recursion on the bytes asks what a test of their count would
+abbrev pub There-tests : Type 0
+There-tests = (n : ℕ) (bs : List ℕ) (there fewer : Ending) → if-there n bs there fewer ≡ cond (leb n (length bs)) there fewer
 
 -- lent bytes are within the limit
 abbrev pub Lent-in-limit : Type 0
@@ -74,6 +78,12 @@ One-each-gap = (bs : List ℕ) (e : Ending) → Past-gap bs → One-outcome bs e
 abbrev pub Outcome-computed : Type 0
 Outcome-computed = (bs : List ℕ) (e : Ending) → Past-gap bs → Comes-to bs e (outcome bs e)
 
+-- refusal 2 holds exactly where ( < or [ opens, no object begins, and 7 does not hold
+abbrev pub Two-exactly : Type 0
+Two-exactly = (b : ℕ) (bs : List ℕ) (e : Ending) → Past-gap (b ∷ bs)
+    → (T (opener b) → ((o : Shown) (rest : List ℕ) → Begins (b ∷ bs) e o rest → ⊥) → ((piece rest : List ℕ) → Refuses (b ∷ bs) e 7 piece rest → ⊥) → (piece : List ℕ) × (rest : List ℕ) × Refuses (b ∷ bs) e 2 piece rest)
+    × ((piece rest : List ℕ) → Refuses (b ∷ bs) e 2 piece rest → T (opener b) × ((o : Shown) (r : List ℕ) → Begins (b ∷ bs) e o r → ⊥) × ((p r : List ℕ) → Refuses (b ∷ bs) e 7 p r → ⊥))
+
 -- a decimal has one nearest single
 abbrev pub One-nearest : Type 0
 One-nearest = (c : ℕ) (k : ℤ) → (bits : ℕ) × Nearest c k bits × ((b : ℕ) → Nearest c k b → b ≡ bits)
@@ -118,9 +128,32 @@ One-answer = (bs : List ℕ) (e : Ending) (o : Shown) (rest : List ℕ) → Begi
 abbrev pub One-turn : Type 0
 One-turn = (s : Meaning) (call : Call) → (a : Answer) × (p : List Piece) × (t : Meaning) × Turn s call a p t × ((b : Answer) (q : List Piece) (u : Meaning) → Turn s call b q u → (b ≡ a) × (q ≡ p) × (u ≡ t))
 
+-- the bytes to come are the gap that is computed and what comes after it
+abbrev pub Parted-computed : Type 0
+Parted-computed = (s : Meaning) → Parted s (gap-of (s .to-come)) (after-gap (s .to-come))
+
+-- where an object is computed, it is taken, and answered as the parser judges it
+abbrev pub Takes-computed : Type 0
+Takes-computed = (s : Meaning) (p : Parser) (o : Shown) (rest : List ℕ) (a : Answer)
+    → outcome (after-gap (s .to-come)) (s .ending) ≡ an-object o rest → Judges p (s .place + length (gap-of (s .to-come))) o a
+    → Turn s (parses p) a (gap (gap-of (s .to-come)) ∷ taken (o .whole) ∷ []) (after s (gap-of (s .to-come) ++ o .whole) rest)
+
+-- where a refusal is computed, it is answered, and its piece passed
+abbrev pub Refuses-computed : Type 0
+Refuses-computed = (s : Meaning) (p : Parser) (n : ℕ) (piece rest : List ℕ) → outcome (after-gap (s .to-come)) (s .ending) ≡ a-refusal n piece rest
+    → Turn s (parses p) (refusal n (s .place + length (gap-of (s .to-come))) (carried n (s .ending))) (gap (gap-of (s .to-come)) ∷ refused piece ∷ []) (after s (gap-of (s .to-come) ++ piece) rest)
+
+-- the question for the end passes the gap that is computed
+abbrev pub Looks-computed : Type 0
+Looks-computed = (s : Meaning) → Turn s at-end (yes-no (at-clean-end (after-gap (s .to-come)) (s .ending))) (gap (gap-of (s .to-come)) ∷ []) (after s (gap-of (s .to-come)) (after-gap (s .to-come)))
+
 -- a list of calls on a source has one run
 abbrev pub One-run : Type 0
 One-run = (s : Meaning) (calls : List Call) → (a : List Answer) × (p : List Piece) × (t : Meaning) × Run s calls a p t × ((b : List Answer) (q : List Piece) (u : Meaning) → Run s calls b q u → (b ≡ a) × (q ≡ p) × (u ≡ t))
+
+-- a run over a source within the limit stays within it
+abbrev pub Run-in-limit : Type 0
+Run-in-limit = (s : Meaning) (calls : List Call) (a : List Answer) (p : List Piece) (t : Meaning) → Run s calls a p t → In-limit s → In-limit t
 
 -- a run has all of the law of a shared scanner
 abbrev pub Run-is-shared : Type 0
@@ -145,3 +178,7 @@ Turn-fits = (s : Meaning) (call : Call) (a : Answer) (p : List Piece) (t : Meani
 -- a line is written into a buffer in one way, and one of at most 48 bytes leaves the buffer as long as it was
 abbrev pub One-writing : Type 0
 One-writing = (buffer text : List ℕ) → (told : Told) × (after : List ℕ) × Writes-line buffer text told after × (length text ≤ 48 → length after ≡ length buffer) × ((t : Told) (a : List ℕ) → Writes-line buffer text t a → (t ≡ told) × (a ≡ after))
+
+-- a source has one listing, which is computed
+abbrev pub One-listing : Type 0
+One-listing = (s : Meaning) → Lists s (listing s) × ((text : List ℕ) → Lists s text → text ≡ listing s)

@@ -9,9 +9,11 @@ use lib.ListN.{length, drop}
 use lib.Signed.{_≤ℤ_}
 use Rattle.definitions.specs.Bytes.{All, digit, within, digit-zero, digit-one, digit-nine, minus-sign, small-e, comma, feed-byte}
 use Rattle.definitions.specs.Numbers.{value}
-use Rattle.definitions.specs.Sources.{Ending, clean, limit}
-use Rattle.definitions.specs.Grammar.{Value, none, integer-value, real-value}
-use Rattle.definitions.specs.PlainReader.{Handed, Answer, object, integer-number, real-number, refusal, yes-no}
+use Rattle.definitions.specs.Sources.{Ending, clean, Meaning, limit}
+use Rattle.definitions.specs.Gaps.{after-gap}
+use Rattle.definitions.specs.Grammar.{Value, none, integer-value, real-value, Outcome, an-object, a-refusal}
+use Rattle.definitions.specs.Outcomes.{gap-of, outcome}
+use Rattle.definitions.specs.PlainReader.{parse-object, parses, at-end, Handed, Answer, object, integer-number, real-number, refusal, yes-no, handed, Piece, carried, at-clean-end, after, Turn}
 use Rattle.definitions.specs.Decoder.{Told, decoded, turned-down}
 
 -- a number in decimal digits, without a zero in front
@@ -58,6 +60,17 @@ pub data Writes-line (buffer line : List ℕ) : Told → List ℕ → Type 0 whe
   too-short : length buffer < 48 → Writes-line buffer line (turned-down 8 0 clean) buffer
   -- the line stands first in the buffer, and its length is answered
   writes : 48 ≤ length buffer → Writes-line buffer line (decoded (length line)) (line ++ drop (length line) buffer)
+
+-- the whole listing of a source: the question for the end before each object, and then the object's line
+pub data Lists : Meaning → List ℕ → Type 0 where
+  -- on a yes the end's line, and no more
+  ends : {s t : Meaning} {ps : List Piece} {text : List ℕ} → Turn s at-end (yes-no true) ps t → Line (t .place) (yes-no true) text → Lists s text
+  -- on a refusal its line, and no more
+  refuses : {s t u : Meaning} {ps qs : List Piece} {n p : ℕ} {e : Ending} {text : List ℕ}
+      → Turn s at-end (yes-no false) ps t → Turn t (parses parse-object) (refusal n p e) qs u → Line (u .place) (refusal n p e) text → Lists s text
+  -- on an object its line, and the listing from there on
+  goes-on : {s t u : Meaning} {ps qs : List Piece} {h : Handed} (text more : List ℕ)
+      → Turn s at-end (yes-no false) ps t → Turn t (parses parse-object) (object h) qs u → Line (u .place) (object h) text → Lists u more → Lists s (text ++ more)
 
 -- the digits of a number, computed, with a bound on their count
 abbrev pub digits-by : ℕ → ℕ → List ℕ
@@ -123,3 +136,23 @@ In-range place (integer-number z) = Unit {0}
 In-range place (real-number bits) = Unit {0}
 In-range place (refusal n p e) = (n < 100) × (p ≤ limit)
 In-range place (yes-no b) = place ≤ limit
+
+-- a source after its gap, computed
+abbrev pub past-gap : Meaning → Meaning
+past-gap s = after s (gap-of (s .to-come)) (after-gap (s .to-come))
+
+-- the line of what stands there, computed, and what goes on after an object
+abbrev pub next-line : Meaning → Outcome → (Meaning → List ℕ) → List ℕ
+next-line s (an-object o rest) go = line (s .place) (object (handed (s .place + length (gap-of (s .to-come))) o)) ++ go (after s (gap-of (s .to-come) ++ o .whole) rest)
+next-line s (a-refusal n piece rest) go = line (s .place) (refusal n (s .place + length (gap-of (s .to-come))) (carried n (s .ending)))
+
+-- the listing of a source, computed, with a bound on its lines
+abbrev pub listing-by : ℕ → Meaning → List ℕ
+listing-by zero s = []
+listing-by (suc turns) s =
+    cond (at-clean-end (after-gap (s .to-come)) (s .ending)) (line (past-gap s .place) (yes-no true))
+    (next-line (past-gap s) (outcome (after-gap (past-gap s .to-come)) (s .ending)) (λ t. listing-by turns t))
+
+-- the listing of a source, computed: each line but the last passes a byte
+abbrev pub listing : Meaning → List ℕ
+listing s = listing-by (suc (length (s .to-come))) s

@@ -1,7 +1,7 @@
 -- What literal text stands for. Assumes nothing.
 use mathlib.Core.Bool.{Bool, true, false, not, cond, _||_}
 use mathlib.Core.List.{List, [], _∷_, _++_}
-use Prim.Native.Nat.{ℕ, _+_, _%_}
+use Prim.Native.Nat.{ℕ, _%_}
 use lib.Dec.{T, eqb}
 use Rattle.definitions.specs.Bytes.{octal, backslash, Outside}
 use Rattle.definitions.specs.Numbers.{value}

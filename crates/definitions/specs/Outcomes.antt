@@ -6,6 +6,7 @@ use lib.Dec.{eqb}
 use lib.ListN.{length, take}
 use Rattle.definitions.specs.Bytes.{regular, front, past, open-paren, close-angle, open-bracket, open-brace, slash, tilde-sign}
 use Rattle.definitions.specs.Sources.{Ending, clean, fault}
+use Rattle.definitions.specs.Gaps.{after-gap}
 use Rattle.definitions.specs.Numbers.{Reading, integer, real, past-limits, name}
 use Rattle.definitions.specs.Readings.{reading}
 use Rattle.definitions.specs.Grammar.{none, integer-value, real-value, Shown, opener, closer, Outcome, an-object, a-refusal}
@@ -20,6 +21,10 @@ chop (b ∷ c ∷ bs) = b ∷ chop (c ∷ bs)
 -- the bytes of a list before a rest of it
 abbrev pub before : List ℕ → List ℕ → List ℕ
 before bs rest = take (length bs - length rest) bs
+
+-- the gap that a list begins with
+abbrev pub gap-of : List ℕ → List ℕ
+gap-of bs = before bs (after-gap bs)
 
 -- an object that holds no number, by its kind, its bytes and those inside
 abbrev pub shown : ℕ → List ℕ → List ℕ → Shown

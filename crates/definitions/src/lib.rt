@@ -1,11 +1,14 @@
-ghost use Rattle.definitions.specs.Laws.{One-front, Lent-in-limit, Window-in-limit, Eexec-in-limit, Step-passes, Class-passes, Passed-in-limit};
-ghost use Rattle.definitions.specs.Laws.{One-gap, Gap-computed, One-reading, Reading-computed, One-each-gap, Outcome-computed, One-nearest, One-integer, Decodes-or-ends, Never-both, Text-decodes, One-decoding, Decoding-computed, One-decoded-source, One-decoded-object, One-answer, One-turn, One-run, Run-is-shared};
-ghost use Rattle.definitions.specs.Laws.{One-text, One-line, Line-fits, Turn-fits, One-writing};
+ghost use Rattle.definitions.specs.Laws.{One-front, There-tests, Lent-in-limit, Window-in-limit, Eexec-in-limit, Step-passes, Class-passes, Passed-in-limit};
+ghost use Rattle.definitions.specs.Laws.{One-gap, Gap-computed, One-reading, Reading-computed, One-each-gap, Outcome-computed, Two-exactly};
+ghost use Rattle.definitions.specs.Laws.{Decodes-or-ends, Never-both, Text-decodes, One-decoding, Decoding-computed, One-decoded-source, One-decoded-object};
+ghost use Rattle.definitions.specs.Laws.{One-nearest, One-integer, One-answer, One-turn, Parted-computed, Takes-computed, Refuses-computed, Looks-computed, One-run, Run-in-limit, Run-is-shared};
+ghost use Rattle.definitions.specs.Laws.{One-text, One-line, Line-fits, Turn-fits, One-writing, One-listing};
 ghost use Rattle.definitions.specs.Worked.{Worked};
 
 // the theorems of sources: what a class passes, the limit of each layer, and what a move passes
 pub fn sources_stand() -> u8
     ensures class { λ _. ⌜ One-front ⌝ }
+    ensures there { λ _. ⌜ There-tests ⌝ }
     ensures lent { λ _. ⌜ Lent-in-limit ⌝ }
     ensures window { λ _. ⌜ Window-in-limit ⌝ }
     ensures eexec { λ _. ⌜ Eexec-in-limit ⌝ }
@@ -24,6 +27,7 @@ pub fn grammar_stands() -> u8
     ensures passes { λ _. ⌜ Gap-computed ⌝ }
     ensures reads { λ _. ⌜ Reading-computed ⌝ }
     ensures comes { λ _. ⌜ Outcome-computed ⌝ }
+    ensures two { λ _. ⌜ Two-exactly ⌝ }
 {
     0
 }
@@ -47,7 +51,12 @@ pub fn reader_stands() -> u8
     ensures integer { λ _. ⌜ One-integer ⌝ }
     ensures answer { λ _. ⌜ One-answer ⌝ }
     ensures turn { λ _. ⌜ One-turn ⌝ }
+    ensures parts { λ _. ⌜ Parted-computed ⌝ }
+    ensures takes { λ _. ⌜ Takes-computed ⌝ }
+    ensures refuses { λ _. ⌜ Refuses-computed ⌝ }
+    ensures looks { λ _. ⌜ Looks-computed ⌝ }
     ensures run { λ _. ⌜ One-run ⌝ }
+    ensures stays { λ _. ⌜ Run-in-limit ⌝ }
     ensures shared { λ _. ⌜ Run-is-shared ⌝ }
 {
     0
@@ -60,6 +69,7 @@ pub fn listing_stands() -> u8
     ensures fits { λ _. ⌜ Line-fits ⌝ }
     ensures turns { λ _. ⌜ Turn-fits ⌝ }
     ensures writes { λ _. ⌜ One-writing ⌝ }
+    ensures listing { λ _. ⌜ One-listing ⌝ }
 {
     0
 }

@@ -3,6 +3,7 @@ use Rattle.definitions.proofs.Sole.{one-parting}
 use Rattle.definitions.proofs.Total.{parted}
 use Rattle.definitions.proofs.ReadsOnce.{reads, one-reading}
 use Rattle.definitions.proofs.GapTotal.{gap-as}
+use Rattle.definitions.proofs.Turns.{two-where, two-is}
 use Rattle.definitions.proofs.OutcomeTotal.{comes, one-outcome}
 use Rattle.definitions.proofs.grammar_stands.Needs as need
 
@@ -14,4 +15,5 @@ returns c = record {
   passes = gap-as;
   reads = reads;
   comes = comes;
+  two = λ b bs e p. (λ h. two-where b bs e h p, two-is b bs e);
 }

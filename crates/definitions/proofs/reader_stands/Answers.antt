@@ -3,7 +3,8 @@ use Rattle.definitions.proofs.Integers.{integer-is, integer-of}
 use Rattle.definitions.proofs.Singles.{some-nearest, one-nearest}
 use Rattle.definitions.proofs.Sole.{one-answer, one-turn, sole}
 use Rattle.definitions.proofs.Total.{some-answer, some-turn, some-run}
-use Rattle.definitions.proofs.Whole.{shared}
+use Rattle.definitions.proofs.Turns.{parted-as, takes-as, refuses-as, looks-as}
+use Rattle.definitions.proofs.Whole.{run-limit, shared}
 use Rattle.definitions.proofs.reader_stands.Needs as need
 
 pub returns : need.returns
@@ -12,6 +13,11 @@ returns c = record {
   integer = λ bits. (integer-of bits, λ z x. sym (integer-is x));
   answer = λ bs e o rest x p at. let (a, y) = some-answer x p at in (a, y, λ b z. one-answer z y);
   turn = λ s call. let (a, p, t, x) = some-turn s call in (a, p, t, x, λ b q u y. one-turn y x);
+  parts = parted-as;
+  takes = takes-as;
+  refuses = refuses-as;
+  looks = looks-as;
   run = λ s calls. let (a, p, t, x) = some-run calls s in (a, p, t, x, sole x);
+  stays = λ s calls a p t x h. run-limit x h;
   shared = λ s calls a p t x. shared x;
 }
