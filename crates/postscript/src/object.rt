@@ -2,11 +2,11 @@ use super::array::Array;
 use super::name::Name;
 use super::part::Part;
 use super::string::String;
-use number::decimal::Decimal;
 use crate::array::ArrayClone as _;
 use crate::name::NameClone;
 use crate::part::PartClone;
 use crate::string::StringClone as _;
+use number::decimal::Decimal;
 
 // An object. Over lent bytes its inside is that part of the bytes itself; over any other source it
 // is a window.
