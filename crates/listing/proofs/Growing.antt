@@ -28,3 +28,10 @@ then {x} {y} {from = from} p q = record {
       q .grows (text ++ x) buffer (p .grows text buffer e k) (p .end ∙ ap (λ i. i + length x) k ∙ sym (length-append text x)) ∙ ap (λ t. lined t buffer) (append-assoc text x y);
   end = q .end ∙ ap (λ i. i + length y) (p .end) ∙ add-assoc from (length x) (length y) ∙ ap (λ i. from + i) (sym (length-append x y));
 }
+
+-- room for two pieces is room for the first, and then for the second
+pub first-fits : (from most : ℕ) (x y : List ℕ) → from + length (x ++ y) ≤ most → from + length x ≤ most
+first-fits from most x y h = omega (arith, h, length-append x y)
+
+pub rest-fits : (from most : ℕ) (x y : List ℕ) (between : ℕ) → from + length (x ++ y) ≤ most → between ≡ from + length x → between + length y ≤ most
+rest-fits from most x y between h e = omega (arith, h, length-append x y)

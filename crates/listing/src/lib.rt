@@ -1,1 +1,2 @@
-pub mod digits;
+mod digits;
+pub mod line;

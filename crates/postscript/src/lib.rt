@@ -1,5 +1,6 @@
 pub mod array;
 pub mod error;
+pub mod kind;
 pub mod name;
 pub mod object;
 pub mod part;

@@ -1,4 +1,6 @@
 ghost use mathlib.Core.Path.{_≡_};
+ghost use Rattle.postscript.specs.Objects.{«name-kind»};
+use super::kind::Kind;
 use super::part::Part;
 use crate::part::PartClone;
 
@@ -14,5 +16,15 @@ impl<I: Copy> Name<I> {
         ensures { λ r. ⌜ r ≡ now (self .entry) .literal ⌝ }
     {
         self.literal
+    }
+
+    pub fn kind(&self) -> Kind
+        ensures { λ r. ⌜ r ≡ name-kind (now (self .entry) .literal) ⌝ }
+    {
+        if self.literal {
+            Kind::LiteralName
+        } else {
+            Kind::ExecutableName
+        }
     }
 }

@@ -1,4 +1,7 @@
+ghost use mathlib.Core.Path.{_≡_};
+ghost use Rattle.postscript.specs.Objects.{«kind-of», «part-of»};
 use super::array::Array;
+use super::kind::Kind;
 use super::name::Name;
 use super::part::Part;
 use super::string::String;
@@ -17,4 +20,31 @@ pub enum Object<I> {
     Name(Name<I>),
     String(String<I>),
     Array(Array<I>),
+}
+
+impl<I: Copy> Object<I> {
+    pub fn kind(&self) -> Kind
+        ensures { λ r. ⌜ r ≡ kind-of (now (self .entry)) ⌝ }
+    {
+        match self {
+            Object::Integer(_, _) => Kind::Integer,
+            Object::Real(_, _) => Kind::Real,
+            Object::Name(name) => name.kind(),
+            Object::String(string) => string.kind(),
+            Object::Array(_) => Kind::Array,
+        }
+    }
+
+    // Where the object stands, and its inside.
+    pub fn part(&self) -> Part<I>
+        ensures { λ r. ⌜ r ≡ part-of (now (self .entry)) ⌝ }
+    {
+        match self {
+            Object::Integer(part, _) => *part,
+            Object::Real(part, _) => *part,
+            Object::Name(name) => name.part,
+            Object::String(string) => string.part,
+            Object::Array(array) => array.part,
+        }
+    }
 }

@@ -1,0 +1,73 @@
+ghost use mathlib.Core.List.{[], _∷_, _++_};
+ghost use mathlib.Core.Path.{_≡_};
+ghost use Prim.Native.Nat.{ℕ, _+_, _≤_, _<_};
+ghost use lib.ListN.{length};
+ghost use Rattle.definitions.specs.Bytes.{comma, «small-e»};
+ghost use Rattle.definitions.specs.Listing.{decimal, «signed-decimal», «minus-if», «value-text», line};
+ghost use Rattle.definitions.specs.PlainReader.{object};
+ghost use Rattle.postscript.specs.Objects.{«as-handed», «value-of», «part-of»};
+ghost use Rattle.listing.specs.Appending.{Appends};
+use super::digits::put;
+use super::digits::put_decimal;
+use super::digits::put_signed;
+use number::decimal::Decimal;
+use postscript::object::Object;
+use reader::source::Source;
+
+// How many bytes a source has to come.
+fn count<S: Source>(source: S) -> u32
+    ensures { λ r. ⌜ r ≡ length (S·Source .meaning source .to-come) ⌝ }
+{
+    let mut left = source;
+    let mut count = 0;
+    while left.peek().is_some() {
+        left.step();
+        count += 1;
+    }
+    count
+}
+
+// A number and a comma.
+fn put_field(buffer: &mut [u8], at: usize, n: u32) -> usize
+    requires { ⌜ at + length (decimal n ++ (comma ∷ [])) ≤ length (now buffer) ⌝ }
+    ensures { λ r. ⌜ Appends (decimal n ++ (comma ∷ [])) (now (buffer .entry)) at (now (buffer .exit)) r ⌝ }
+{
+    let end = put_decimal(buffer, at, n as u64);
+    put(buffer, end, b",")
+}
+
+fn put_minus(buffer: &mut [u8], at: usize, negative: bool) -> usize
+    requires { ⌜ at + length (minus-if negative) ≤ length (now buffer) ⌝ }
+    ensures { λ r. ⌜ Appends (minus-if negative) (now (buffer .entry)) at (now (buffer .exit)) r ⌝ }
+{
+    if negative {
+        put(buffer, at, b"-")
+    } else {
+        put(buffer, at, b"")
+    }
+}
+
+// Any minus, c, e and k.
+fn put_real(buffer: &mut [u8], at: usize, negative: bool, c: u64, k: i64) -> usize
+    requires { ⌜ at + length (minus-if negative ++ (decimal c ++ (small-e ∷ signed-decimal k))) ≤ length (now buffer) ⌝ }
+    ensures { λ r. ⌜ Appends (minus-if negative ++ (decimal c ++ (small-e ∷ signed-decimal k))) (now (buffer .entry)) at (now (buffer .exit)) r ⌝ }
+{
+    let after_sign = put_minus(buffer, at, negative);
+    let after_c = put_decimal(buffer, after_sign, c);
+    let after_e = put(buffer, after_c, b"e");
+    put_signed(buffer, after_e, k)
+}
+
+// The value of an object: an integer; a real; else the count of bytes inside.
+fn put_value<I: Source>(buffer: &mut [u8], at: usize, object: &Object<I>) -> usize
+    requires { ⌜ at + length (value-text (length (I·Source .meaning (part-of (now object) .inside) .to-come)) (value-of (now object))) ≤ length (now buffer) ⌝ }
+    ensures { λ r. ⌜ Appends (value-text (length (I·Source .meaning (part-of (now (object .entry)) .inside) .to-come)) (value-of (now (object .entry)))) (now (buffer .entry)) at (now (buffer .exit)) r ⌝ }
+{
+    match object {
+        Object::Integer(_, n) => put_signed(buffer, at, i64::from(*n)),
+        Object::Real(_, d) => put_real(buffer, at, d.is_negative(), d.c(), i64::from(d.k())),
+        Object::Name(name) => put_decimal(buffer, at, u64::from(count(name.part.inside))),
+        Object::String(string) => put_decimal(buffer, at, u64::from(count(string.part.inside))),
+        Object::Array(array) => put_decimal(buffer, at, u64::from(count(array.part.inside))),
+    }
+}
