@@ -1,5 +1,5 @@
 -- Text that grows at the front of a buffer, piece after piece. Assumes nothing.
-use mathlib.Core.List.{List, [], _++_, append-assoc}
+use mathlib.Core.List.{List, [], _∷_, _++_, append-assoc}
 use mathlib.Core.Path.{_≡_, refl, sym, ap, ap₂, _∙_}
 use Prim.Native.Nat.{ℕ, _+_, _≤_}
 use native.Mathlib.Nat.{add-assoc}
@@ -8,6 +8,8 @@ use lib.ListN.{length, take, drop, length-append}
 use lib.Seq.{take-append-seam, drop-append-seam}
 use Rattle.std.proofs.shelf.Lists.{drop-drop}
 use Rattle.std.proofs.shelf.Parts.{drop-append-drop}
+use Rattle.definitions.specs.Bytes.{comma}
+use Rattle.definitions.specs.Listing.{decimal}
 use Rattle.listing.specs.Appending.{lined, Appends}
 
 -- a text written over the buffer at a place
@@ -35,3 +37,14 @@ first-fits from most x y h = omega (arith, h, length-append x y)
 
 pub rest-fits : (from most : ℕ) (x y : List ℕ) (between : ℕ) → from + length (x ++ y) ≤ most → between ≡ from + length x → between + length y ≤ most
 rest-fits from most x y between h e = omega (arith, h, length-append x y)
+
+-- a number and a comma
+abbrev pub field : ℕ → List ℕ
+field n = decimal n ++ (comma ∷ [])
+
+-- fields in a row, as a line nests them
+pub three-fields : (k s e : ℕ) (rest : List ℕ) → field k ++ (field s ++ (field e ++ rest)) ≡ decimal k ++ (comma ∷ (decimal s ++ (comma ∷ (decimal e ++ (comma ∷ rest)))))
+three-fields k s e rest = simp append-assoc
+
+pub two-fields : (n : ℕ) (rest : List ℕ) → field n ++ rest ≡ decimal n ++ (comma ∷ rest)
+two-fields n rest = append-assoc (decimal n) (comma ∷ []) rest

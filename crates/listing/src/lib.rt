@@ -1,2 +1,3 @@
 mod digits;
+pub mod entry;
 pub mod line;

@@ -1,10 +1,12 @@
+ghost use mathlib.Core.Bool.{true};
 ghost use mathlib.Core.List.{[], _∷_, _++_};
 ghost use mathlib.Core.Path.{_≡_};
 ghost use Prim.Native.Nat.{ℕ, _+_, _≤_, _<_};
 ghost use lib.ListN.{length};
 ghost use Rattle.definitions.specs.Bytes.{comma, «small-e»};
 ghost use Rattle.definitions.specs.Listing.{decimal, «signed-decimal», «minus-if», «value-text», line};
-ghost use Rattle.definitions.specs.PlainReader.{object};
+ghost use Rattle.definitions.specs.PlainReader.{object, refusal, «yes-no»};
+ghost use Rattle.definitions.specs.Sources.{clean};
 ghost use Rattle.postscript.specs.Objects.{«as-handed», «value-of», «part-of»};
 ghost use Rattle.listing.specs.Appending.{Appends};
 use super::digits::put;
@@ -28,11 +30,11 @@ fn count<S: Source>(source: S) -> u32
 }
 
 // A number and a comma.
-fn put_field(buffer: &mut [u8], at: usize, n: u32) -> usize
+fn put_field(buffer: &mut [u8], at: usize, n: u64) -> usize
     requires { ⌜ at + length (decimal n ++ (comma ∷ [])) ≤ length (now buffer) ⌝ }
     ensures { λ r. ⌜ Appends (decimal n ++ (comma ∷ [])) (now (buffer .entry)) at (now (buffer .exit)) r ⌝ }
 {
-    let end = put_decimal(buffer, at, n as u64);
+    let end = put_decimal(buffer, at, n);
     put(buffer, end, b",")
 }
 
@@ -66,8 +68,42 @@ fn put_value<I: Source>(buffer: &mut [u8], at: usize, object: &Object<I>) -> usi
     match object {
         Object::Integer(_, n) => put_signed(buffer, at, i64::from(*n)),
         Object::Real(_, d) => put_real(buffer, at, d.is_negative(), d.c(), i64::from(d.k())),
-        Object::Name(name) => put_decimal(buffer, at, u64::from(count(name.part.inside))),
-        Object::String(string) => put_decimal(buffer, at, u64::from(count(string.part.inside))),
-        Object::Array(array) => put_decimal(buffer, at, u64::from(count(array.part.inside))),
+        Object::Name(name) => put_decimal(buffer, at, count(name.part.inside) as u64),
+        Object::String(string) => put_decimal(buffer, at, count(string.part.inside) as u64),
+        Object::Array(array) => put_decimal(buffer, at, count(array.part.inside) as u64),
     }
+}
+
+// Kind, start, end and value, parted by commas.
+fn put_object<I: Source>(buffer: &mut [u8], taken: &Object<I>) -> usize
+    requires { ⌜ length (line 0 (object (as-handed (I·Source .meaning) (now taken)))) ≤ length (now buffer) ⌝ }
+    ensures { λ r. ⌜ Appends (line 0 (object (as-handed (I·Source .meaning) (now (taken .entry))))) (now (buffer .entry)) 0 (now (buffer .exit)) r ⌝ }
+{
+    let part = taken.part();
+    let after_kind = put_field(buffer, 0, taken.kind().number() as u64);
+    let after_start = put_field(buffer, after_kind, part.start as u64);
+    let after_end = put_field(buffer, after_start, part.end as u64);
+    let after_value = put_value(buffer, after_end, taken);
+    put(buffer, after_value, b"\n")
+}
+
+// The word refused, the number and the place.
+fn put_refusal(buffer: &mut [u8], number: u8, place: u32) -> usize
+    requires { ⌜ length (line 0 (refusal number place clean)) ≤ length (now buffer) ⌝ }
+    ensures { λ r. ⌜ Appends (line 0 (refusal number place clean)) (now (buffer .entry)) 0 (now (buffer .exit)) r ⌝ }
+{
+    let after_word = put(buffer, 0, b"refused,");
+    let after_number = put_field(buffer, after_word, number as u64);
+    let after_place = put_decimal(buffer, after_number, place as u64);
+    put(buffer, after_place, b"\n")
+}
+
+// The word end and the place.
+fn put_end(buffer: &mut [u8], place: u32) -> usize
+    requires { ⌜ length (line place (yes-no true)) ≤ length (now buffer) ⌝ }
+    ensures { λ r. ⌜ Appends (line place (yes-no true)) (now (buffer .entry)) 0 (now (buffer .exit)) r ⌝ }
+{
+    let after_word = put(buffer, 0, b"end,");
+    let after_place = put_decimal(buffer, after_word, place as u64);
+    put(buffer, after_place, b"\n")
 }
