@@ -12,6 +12,7 @@ use Rattle.definitions.specs.Decoder.{Told, decoded, Decodes-into, Decodes-obj
 use Rattle.definitions.specs.SharedRun.{Run, stops, goes-on, Among, first, later, Decodes-fully, from, opener-length, inside-source, Shared}
 use Rattle.definitions.proofs.Cut.{begins-whole, turn-cut, run-cut, joined-++}
 use Rattle.definitions.proofs.Sole.{sole}
+use Rattle.definitions.proofs.OutcomeOnce.{take-front}
 use Rattle.definitions.proofs.OutcomeTotal.{one-outcome}
 use Rattle.definitions.proofs.Decoding.{text-decodes, one-decoding, never-ends}
 
@@ -118,10 +119,6 @@ begins-parts (Begins.run u z h s x Run-shows.name-run) = ([], [], append-nil u, 
 drop-front : (a b : List ℕ) → drop (length a) (a ++ b) ≡ b
 drop-front [] b = refl
 drop-front (x ∷ a) b = drop-front a b
-
-take-front : (a b : List ℕ) → take (length a) (a ++ b) ≡ a
-take-front [] b = refl
-take-front (x ∷ a) b = ap (λ l. x ∷ l) (take-front a b)
 
 there : (a b : List ℕ) (e f : Ending) → if-there (length a) (a ++ b) e f ≡ e
 there [] b e f = refl

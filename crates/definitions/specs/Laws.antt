@@ -13,12 +13,13 @@ use Rattle.definitions.specs.Moves.{stepped, past-class, Passed}
 use Rattle.definitions.specs.Gaps.{Gap, Past-gap, after-gap}
 use Rattle.definitions.specs.Numbers.{Reading, Reads}
 use Rattle.definitions.specs.Readings.{reading}
+use Rattle.definitions.specs.Reasons.{Kind, kind-number, Reason, reason-number}
 use Rattle.definitions.specs.Grammar.{Text, Shown, Begins, opener, Refuses, an-object, a-refusal, Comes-to, One-outcome}
 use Rattle.definitions.specs.Outcomes.{gap-of, outcome}
 use Rattle.definitions.specs.LiteralText.{Decodes, Ends-in-backslash, paired, decode}
 use Rattle.definitions.specs.Singles.{Nearest, Integer-of, to-integer}
 use Rattle.definitions.specs.PlainReader.{Parser, Call, parses, at-end, Handed, Answer, refusal, yes-no, Judges, Piece, gap, taken, refused, carried, at-clean-end, after, Parted, Turn}
-use Rattle.definitions.specs.Decoder.{Told, Decodes-source, Decodes-object}
+use Rattle.definitions.specs.Decoder.{Told, turned-down, Decodes-source, Decodes-object}
 use Rattle.definitions.specs.SharedRun.{Run, Shared}
 use Rattle.definitions.specs.Listing.{Written, decimal, Line, line, Listed, In-range, Writes-line, Lists, listing}
 
@@ -146,6 +147,17 @@ Refuses-computed = (s : Meaning) (p : Parser) (n : ℕ) (piece rest : List ℕ) 
 -- the question for the end passes the gap that is computed
 abbrev pub Looks-computed : Type 0
 Looks-computed = (s : Meaning) → Turn s at-end (yes-no (at-clean-end (after-gap (s .to-come)) (s .ending))) (gap (gap-of (s .to-come)) ∷ []) (after s (gap-of (s .to-come)) (after-gap (s .to-come)))
+
+-- each object is of one of the kinds, and each number is that of one kind
+abbrev pub One-kind : Type 0
+One-kind = ((bs : List ℕ) (e : Ending) (o : Shown) (rest : List ℕ) → Begins bs e o rest → (k : Kind) × (o .kind ≡ kind-number k)) × ((j k : Kind) → kind-number j ≡ kind-number k → j ≡ k)
+
+-- each refusal, of a call or of the decoder, has one of the reasons, and each number is that of one reason
+abbrev pub One-reason : Type 0
+One-reason = ((s : Meaning) (call : Call) (n place : ℕ) (e : Ending) (p : List Piece) (t : Meaning) → Turn s call (refusal n place e) p t → (r : Reason) × (n ≡ reason-number r))
+    × ((buffer : List ℕ) (m : Meaning) (n place : ℕ) (e : Ending) (after : List ℕ) → Decodes-source buffer m (turned-down n place e) after → (r : Reason) × (n ≡ reason-number r))
+    × ((buffer : List ℕ) (h : Handed) (n place : ℕ) (e : Ending) (after : List ℕ) → Decodes-object buffer h (turned-down n place e) after → (r : Reason) × (n ≡ reason-number r))
+    × ((q r : Reason) → reason-number q ≡ reason-number r → q ≡ r)
 
 -- a list of calls on a source has one run
 abbrev pub One-run : Type 0
