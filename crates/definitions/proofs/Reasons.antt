@@ -8,8 +8,8 @@ use Rattle.definitions.specs.Sources.{Ending, Meaning}
 use Rattle.definitions.specs.Numbers.{Reading}
 use Rattle.definitions.specs.Grammar.{String, Shown, Run-shows, Begins, Refuses}
 use Rattle.definitions.specs.Reasons.{Kind, kind-number, Reason, reason-number}
-use Rattle.definitions.specs.PlainReader.{Parser, Call, Handed, Answer, refusal, Judges, Piece, Turn}
-use Rattle.definitions.specs.Decoder.{Told, turned-down, Decodes-into, Decodes-object}
+use Rattle.definitions.specs.PlainReader.{Parser, Call, Answer, refusal, Judges, Piece, Turn}
+use Rattle.definitions.specs.Decoder.{Told, turned-down, Decodes-into, Decodes-held}
 
 -- the kind of a number, and the reason of one
 abbrev kind-of : ℕ → Kind
@@ -109,13 +109,13 @@ into-reasoned (Decodes-into.backslash x) = (Reason.lone-backslash, refl)
 into-reasoned (Decodes-into.too-short d x h) = (Reason.short-buffer, refl)
 into-reasoned (Decodes-into.writes d x h) = tt
 
-pub object-reasoned : {buffer : List ℕ} {h : Handed} {told : Told} {after : List ℕ} → Decodes-object buffer h told after → Told-reasoned told
-object-reasoned (Decodes-object.other-type n) = (Reason.other-type, refl)
-object-reasoned (Decodes-object.encoded a n) = (Reason.unsupported, refl)
-object-reasoned (Decodes-object.literal e x) = into-reasoned x
+held-reasoned : {buffer : List ℕ} {kind start : ℕ} {inside : Meaning} {told : Told} {after : List ℕ} → Decodes-held buffer kind start inside told after → Told-reasoned told
+held-reasoned (Decodes-held.other-type n) = (Reason.other-type, refl)
+held-reasoned (Decodes-held.encoded a n) = (Reason.unsupported, refl)
+held-reasoned (Decodes-held.literal e x) = into-reasoned x
 
 pub into-reason : {buffer text : List ℕ} {place : ℕ} {e : Ending} {n p : ℕ} {d : Ending} {after : List ℕ} → Decodes-into buffer text place e (turned-down n p d) after → (r : Reason) × (n ≡ reason-number r)
 into-reason x = into-reasoned x
 
-pub object-reason : {buffer : List ℕ} {h : Handed} {n p : ℕ} {e : Ending} {after : List ℕ} → Decodes-object buffer h (turned-down n p e) after → (r : Reason) × (n ≡ reason-number r)
-object-reason x = object-reasoned x
+pub held-reason : {buffer : List ℕ} {kind start : ℕ} {inside : Meaning} {n p : ℕ} {e : Ending} {after : List ℕ} → Decodes-held buffer kind start inside (turned-down n p e) after → (r : Reason) × (n ≡ reason-number r)
+held-reason x = held-reasoned x

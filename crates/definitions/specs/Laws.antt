@@ -18,8 +18,8 @@ use Rattle.definitions.specs.Grammar.{Text, Shown, Begins, opener, Refuses, an
 use Rattle.definitions.specs.Outcomes.{gap-of, outcome}
 use Rattle.definitions.specs.LiteralText.{Decodes, Ends-in-backslash, paired, decode}
 use Rattle.definitions.specs.Singles.{Nearest, Integer-of, to-integer}
-use Rattle.definitions.specs.PlainReader.{Parser, Call, parses, at-end, Handed, Answer, refusal, yes-no, Judges, Piece, gap, taken, refused, carried, at-clean-end, after, Parted, Turn}
-use Rattle.definitions.specs.Decoder.{Told, turned-down, Decodes-source, Decodes-object}
+use Rattle.definitions.specs.PlainReader.{Parser, Call, parses, at-end, Answer, refusal, yes-no, Judges, Piece, gap, taken, refused, carried, at-clean-end, after, Parted, Turn}
+use Rattle.definitions.specs.Decoder.{Told, turned-down, Decodes-source, Decodes-held}
 use Rattle.definitions.specs.SharedRun.{Run, Shared}
 use Rattle.definitions.specs.Listing.{Written, decimal, Line, line, Listed, In-range, Writes-line, Lists, listing}
 
@@ -117,9 +117,10 @@ Decoding-computed = (t : List ℕ) → T (paired t) → Decodes t (decode t)
 abbrev pub One-decoded-source : Type 0
 One-decoded-source = (buffer : List ℕ) (m : Meaning) → (told : Told) × (after : List ℕ) × Decodes-source buffer m told after × (length after ≡ length buffer) × ((t : Told) (a : List ℕ) → Decodes-source buffer m t a → (t ≡ told) × (a ≡ after))
 
--- and so has the decoder of an object
+-- and so has the decoder of an object, whatever its kind, start and inside
 abbrev pub One-decoded-object : Type 0
-One-decoded-object = (buffer : List ℕ) (h : Handed) → (told : Told) × (after : List ℕ) × Decodes-object buffer h told after × (length after ≡ length buffer) × ((t : Told) (a : List ℕ) → Decodes-object buffer h t a → (t ≡ told) × (a ≡ after))
+One-decoded-object = (buffer : List ℕ) (kind start : ℕ) (inside : Meaning)
+    → (told : Told) × (after : List ℕ) × Decodes-held buffer kind start inside told after × (length after ≡ length buffer) × ((t : Told) (a : List ℕ) → Decodes-held buffer kind start inside t a → (t ≡ told) × (a ≡ after))
 
 -- a parser answers an object in one way
 abbrev pub One-answer : Type 0
@@ -156,7 +157,7 @@ One-kind = ((bs : List ℕ) (e : Ending) (o : Shown) (rest : List ℕ) → Begin
 abbrev pub One-reason : Type 0
 One-reason = ((s : Meaning) (call : Call) (n place : ℕ) (e : Ending) (p : List Piece) (t : Meaning) → Turn s call (refusal n place e) p t → (r : Reason) × (n ≡ reason-number r))
     × ((buffer : List ℕ) (m : Meaning) (n place : ℕ) (e : Ending) (after : List ℕ) → Decodes-source buffer m (turned-down n place e) after → (r : Reason) × (n ≡ reason-number r))
-    × ((buffer : List ℕ) (h : Handed) (n place : ℕ) (e : Ending) (after : List ℕ) → Decodes-object buffer h (turned-down n place e) after → (r : Reason) × (n ≡ reason-number r))
+    × ((buffer : List ℕ) (kind start : ℕ) (inside : Meaning) (n place : ℕ) (e : Ending) (after : List ℕ) → Decodes-held buffer kind start inside (turned-down n place e) after → (r : Reason) × (n ≡ reason-number r))
     × ((q r : Reason) → reason-number q ≡ reason-number r → q ≡ r)
 
 -- a list of calls on a source has one run

@@ -89,6 +89,10 @@ pub data Answer : Type 0 where
 abbrev pub handed : ℕ → Shown → Handed
 handed at o = record { kind = o .kind; start = at; end = at + length (o .whole); inside = o .inside; value = o .value }
 
+-- the inside as a source: its bytes, from place 0, with a clean end
+abbrev pub inside-source : Handed → Meaning
+inside-source h = record { to-come = h .inside; place = 0; ending = clean }
+
 -- what a parser answers of an object that it took at a place
 pub data Judges : Parser → ℕ → Shown → Answer → Type 0 where
   -- the object, by any parser that accepts its kind but parse-number

@@ -4,7 +4,7 @@ use Rattle.definitions.proofs.Singles.{some-nearest, one-nearest}
 use Rattle.definitions.proofs.Sole.{one-answer, one-turn, sole}
 use Rattle.definitions.proofs.Total.{some-answer, some-turn, some-run}
 use Rattle.definitions.proofs.Turns.{parted-as, takes-as, refuses-as, looks-as}
-use Rattle.definitions.proofs.Reasons.{one-kind, begins-kind, one-reason, turn-reason, into-reason, object-reason}
+use Rattle.definitions.proofs.Reasons.{one-kind, begins-kind, one-reason, turn-reason, into-reason, held-reason}
 use Rattle.definitions.proofs.Whole.{run-limit, shared}
 use Rattle.definitions.proofs.reader_stands.Needs as need
 
@@ -19,7 +19,7 @@ returns c = record {
   refuses = refuses-as;
   looks = looks-as;
   kind = (λ bs e o rest x. begins-kind x, one-kind);
-  reason = (λ s call n place e p t x. turn-reason x, λ b m n place e a x. into-reason x, λ b h n place e a x. object-reason x, one-reason);
+  reason = (λ s call n place e p t x. turn-reason x, λ b m n place e a x. into-reason x, λ b kind start inside n place e a x. held-reason x, one-reason);
   run = λ s calls. let (a, p, t, x) = some-run calls s in (a, p, t, x, sole x);
   stays = λ s calls a p t x h. run-limit x h;
   shared = λ s calls a p t x. shared x;
