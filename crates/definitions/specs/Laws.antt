@@ -18,7 +18,7 @@ use Rattle.definitions.specs.Grammar.{Text, Shown, Begins, opener, Refuses, an
 use Rattle.definitions.specs.Outcomes.{gap-of, outcome}
 use Rattle.definitions.specs.LiteralText.{Decodes, Ends-in-backslash, paired, decode}
 use Rattle.definitions.specs.Singles.{Nearest, Integer-of, to-integer}
-use Rattle.definitions.specs.PlainReader.{Parser, Call, parses, at-end, Answer, refusal, yes-no, Judges, Piece, gap, taken, refused, carried, at-clean-end, after, Parted, Turn}
+use Rattle.definitions.specs.PlainReader.{Parser, Call, parses, at-end, Accepts, accepts, Near, near?, Answer, refusal, yes-no, Judges, Piece, gap, taken, refused, carried, at-clean-end, after, Parted, Turn}
 use Rattle.definitions.specs.Decoder.{Told, turned-down, Decodes-source, Decodes-held}
 use Rattle.definitions.specs.SharedRun.{Run, Shared}
 use Rattle.definitions.specs.Listing.{Written, decimal, Line, line, Listed, In-range, Writes-line, Lists, listing}
@@ -121,6 +121,14 @@ One-decoded-source = (buffer : List ℕ) (m : Meaning) → (told : Told) × (aft
 abbrev pub One-decoded-object : Type 0
 One-decoded-object = (buffer : List ℕ) (kind start : ℕ) (inside : Meaning)
     → (told : Told) × (after : List ℕ) × Decodes-held buffer kind start inside told after × (length after ≡ length buffer) × ((t : Told) (a : List ℕ) → Decodes-held buffer kind start inside t a → (t ≡ told) × (a ≡ after))
+
+-- which kinds a parser accepts is computed
+abbrev pub Accepts-computed : Type 0
+Accepts-computed = (p : Parser) (k : ℕ) → (T (accepts p k) → Accepts p k) × (Accepts p k → T (accepts p k))
+
+-- which reals are near is computed factor by factor
+abbrev pub Near-computed : Type 0
+Near-computed = (c : ℕ) (k : ℤ) → (T (near? c k) → Near c k) × (Near c k → T (near? c k))
 
 -- a parser answers an object in one way
 abbrev pub One-answer : Type 0
