@@ -6,10 +6,10 @@ use Prim.Native.Nat.{ℕ, _≤_, _<_}
 use native.Mathlib.Omega.{arith}
 use lib.ListN.{length, length-append, length-drop, drop}
 use Rattle.std.proofs.shelf.Tests.{cases-lt, cases-eq}
-use Rattle.definitions.specs.Sources.{Ending, clean, fault}
+use Rattle.definitions.specs.Sources.{Ending, clean, fault, Meaning}
 use Rattle.definitions.specs.LiteralText.{Decodes, Ends-in-backslash}
-use Rattle.definitions.specs.PlainReader.{Accepts, parse-string, Handed}
-use Rattle.definitions.specs.Decoder.{Told, decoded, Decodes-into, faulty, backslash, too-short, writes, Decodes-object, other-type, encoded, literal}
+use Rattle.definitions.specs.PlainReader.{Accepts, parse-string}
+use Rattle.definitions.specs.Decoder.{Told, decoded, Decodes-into, faulty, backslash, too-short, writes, Decodes-held, other-type, encoded, literal}
 use Rattle.definitions.proofs.Decoding.{decodes-or-ends, never-ends, one-decoding}
 use Rattle.definitions.proofs.Total.{accepts-or}
 
@@ -48,29 +48,29 @@ into-length (too-short d x h) = refl
 into-length {buffer = buffer} (writes d x h) = omega (arith, decodes-length x, length-append d (drop (length d) buffer), length-drop (length d) buffer)
 
 -- the same of an object
-pub some-object : (buffer : List ℕ) (h : Handed) → (told : Told) × (after : List ℕ) × Decodes-object buffer h told after
-some-object b h = step (accepts-or parse-string (h .kind)) (cases-eq (h .kind) 5)
+pub some-held : (buffer : List ℕ) (kind start : ℕ) (inside : Meaning) → (told : Told) × (after : List ℕ) × Decodes-held buffer kind start inside told after
+some-held b kind start inside = step (accepts-or parse-string kind) (cases-eq kind 5)
   where
-    step : Accepts parse-string (h .kind) ⊎ (Accepts parse-string (h .kind) → ⊥) → (h .kind ≡ 5) ⊎ (h .kind ≡ 5 → ⊥) → (told : Told) × (after : List ℕ) × Decodes-object b h told after
+    step : Accepts parse-string kind ⊎ (Accepts parse-string kind → ⊥) → (kind ≡ 5) ⊎ (kind ≡ 5 → ⊥) → (told : Told) × (after : List ℕ) × Decodes-held b kind start inside told after
     step (inr n) w = (_, _, other-type n)
-    step (inl a) (inl e) = let (told, after, x) = some-into b (h .inside) (h .start) clean in (told, after, literal e x)
+    step (inl a) (inl e) = let (told, after, x) = some-into b (inside .to-come) start (inside .ending) in (told, after, literal e x)
     step (inl a) (inr n) = (_, _, encoded a n)
 
 five : {k : ℕ} → k ≡ 5 → Accepts parse-string k
 five e = subst (Accepts parse-string) (sym e) Accepts.literal-strings
 
-pub one-object : {buffer : List ℕ} {h : Handed} {s t : Told} {a b : List ℕ} → Decodes-object buffer h s a → Decodes-object buffer h t b → (s ≡ t) × (a ≡ b)
-one-object (other-type n) (other-type m) = (refl, refl)
-one-object (other-type n) (encoded a k) = absurd (n a)
-one-object (other-type n) (literal e x) = absurd (n (five e))
-one-object (encoded a k) (other-type n) = absurd (n a)
-one-object (encoded a k) (encoded b l) = (refl, refl)
-one-object (encoded a k) (literal e x) = absurd (k e)
-one-object (literal e x) (other-type n) = absurd (n (five e))
-one-object (literal e x) (encoded a k) = absurd (k e)
-one-object (literal e x) (literal d y) = one-into x y
+pub one-held : {buffer : List ℕ} {kind start : ℕ} {inside : Meaning} {s t : Told} {a b : List ℕ} → Decodes-held buffer kind start inside s a → Decodes-held buffer kind start inside t b → (s ≡ t) × (a ≡ b)
+one-held (other-type n) (other-type m) = (refl, refl)
+one-held (other-type n) (encoded a k) = absurd (n a)
+one-held (other-type n) (literal e x) = absurd (n (five e))
+one-held (encoded a k) (other-type n) = absurd (n a)
+one-held (encoded a k) (encoded b l) = (refl, refl)
+one-held (encoded a k) (literal e x) = absurd (k e)
+one-held (literal e x) (other-type n) = absurd (n (five e))
+one-held (literal e x) (encoded a k) = absurd (k e)
+one-held (literal e x) (literal d y) = one-into x y
 
-pub object-length : {buffer : List ℕ} {h : Handed} {told : Told} {after : List ℕ} → Decodes-object buffer h told after → length after ≡ length buffer
-object-length (other-type n) = refl
-object-length (encoded a n) = refl
-object-length (literal e x) = into-length x
+pub held-length : {buffer : List ℕ} {kind start : ℕ} {inside : Meaning} {told : Told} {after : List ℕ} → Decodes-held buffer kind start inside told after → length after ≡ length buffer
+held-length (other-type n) = refl
+held-length (encoded a n) = refl
+held-length (literal e x) = into-length x

@@ -1,5 +1,5 @@
 -- A number has one text and a listing's answer one line, which is computed, and which fits 48 bytes. Assumes nothing.
-use mathlib.Core.Bool.{Bool, true, false}
+use mathlib.Core.Bool.{Bool, true, false, cond}
 use mathlib.Core.List.{List, [], _∷_, _++_, append-assoc, append-nil}
 use mathlib.Core.Logic.{_⊎_, inl, inr}
 use mathlib.Core.Path.{_≡_, refl, sym, ap, ap₂, subst, subst₂, _∙_}
@@ -7,36 +7,55 @@ use Prim.Native.Nat.{ℕ, zero, suc, _+_, _-_, _*_, _/_, _%_, _^_, _≤_, _<_}
 use native.Mathlib.Nat.{pow-succ'}
 use native.Mathlib.Omega.{arith}
 use lib.Chars.{codes}
-use lib.Dec.{T, leb, leb→le}
+use lib.Dec.{T, leb, ltb, leb→le}
 use lib.IntN.{ℤ, pos, negsuc}
 use lib.ListN.{length, length-append, length-drop, drop}
-use Rattle.std.proofs.shelf.Tests.{cases-lt, lt-ltb, le-ltb, le-leb}
+use Rattle.std.proofs.shelf.Tests.{cases-lt, lt-ltb, le-ltb, le-leb, ltb-true}
 use Rattle.definitions.specs.Bytes.{All, digit, within}
 use Rattle.definitions.specs.Numbers.{digit-worth, value-after, value}
 use Rattle.definitions.specs.Sources.{limit}
 use Rattle.definitions.specs.Grammar.{Value, none, integer-value, real-value}
 use Rattle.definitions.specs.PlainReader.{Answer, object, integer-number, real-number, refusal, yes-no}
 use Rattle.definitions.specs.Decoder.{Told}
-use Rattle.definitions.specs.Listing.{Written, zero-digit, some-digits, Written-signed, unsigned, negative, minus-if, Written-value, of-integer, of-real, of-inside, Line, of-object, of-refusal, of-end, Writes-line, too-short, writes, digits-by, decimal, signed-decimal, value-text, line, Listed, Value-in-range, In-range}
+use Rattle.definitions.specs.Listing.{Written, zero-digit, some-digits, Written-signed, unsigned, negative, minus-if, Written-value, of-integer, of-real, of-inside, Line, of-object, of-refusal, of-end, Writes-line, too-short, writes, digits-by, more-digits, decimal, signed-decimal, value-text, line, Listed, Value-in-range, In-range}
 use lib.Signed.{leZ}
 use Rattle.definitions.proofs.Bytes.{is-true, T-from}
 use Rattle.definitions.proofs.Readings.{parts, both}
 
 -- the digits of a number do not depend on the bound
-by-turns : (f g n : ℕ) → n < f → n < g → digits-by f n ≡ digits-by g n
-by-turns zero g n h k = absurd (omega arith)
-by-turns (suc f) zero n h k = absurd (omega arith)
+by-turns : (f g n : ℕ) → n < 10 ^ suc f → n < 10 ^ suc g → digits-by (suc f) n ≡ digits-by (suc g) n
+by-turns zero g n h k = let l : n < 10 = omega arith in rw (lt-ltb n 10 l)
+by-turns (suc f) zero n h k = let l : n < 10 = omega arith in rw (lt-ltb n 10 l)
 by-turns (suc f) (suc g) n h k = step (cases-lt n 10) (by-turns f g (n / 10))
   where
-    step : (n < 10) ⊎ (10 ≤ n) → (n / 10 < f → n / 10 < g → digits-by f (n / 10) ≡ digits-by g (n / 10)) → digits-by (suc f) n ≡ digits-by (suc g) n
+    step : (n < 10) ⊎ (10 ≤ n) → (n / 10 < 10 ^ suc f → n / 10 < 10 ^ suc g → digits-by (suc f) (n / 10) ≡ digits-by (suc g) (n / 10)) → digits-by (suc (suc f)) n ≡ digits-by (suc (suc g)) n
     step (inl l) ih = rw (lt-ltb n 10 l)
-    step (inr l) ih = rw (le-ltb n 10 l) (ap (λ ds. ds ++ ((48 + n % 10) ∷ [])) (ih (omega arith) (omega arith)))
+    step (inr l) ih =
+        let p = pow-succ' 10 (suc f) in let q = pow-succ' 10 (suc g) in
+        ap (λ t. cond t ((48 + n) ∷ []) (digits-by (suc f) (n / 10) ++ ((48 + n % 10) ∷ []))) (le-ltb n 10 l)
+        ∙ ap (λ ds. ds ++ ((48 + n % 10) ∷ [])) (ih (omega arith) (omega arith))
+        ∙ sym (ap (λ t. cond t ((48 + n) ∷ []) (digits-by (suc g) (n / 10) ++ ((48 + n % 10) ∷ []))) (le-ltb n 10 l))
+
+grows : (n : ℕ) → n < 10 ^ n
+grows zero = omega arith
+grows (suc n) = let p = pow-succ' 10 n in let h = grows n in omega arith
+
+enough : (n : ℕ) → n < 10 ^ suc (more-digits n)
+enough n = step (ltb n (10 ^ 20)) refl
+  where
+    step : (t : Bool) → ltb n (10 ^ 20) ≡ t → n < 10 ^ suc (cond t 19 n)
+    step true e = ltb-true n (10 ^ 20) e
+    step false e = let p = pow-succ' 10 n in let h = grows n in omega arith
 
 pub decimal-digit : (n : ℕ) → n < 10 → decimal n ≡ (48 + n) ∷ []
-decimal-digit n l = rw (lt-ltb n 10 l)
+decimal-digit n l = ap (λ t. cond t ((48 + n) ∷ []) (digits-by (more-digits n) (n / 10) ++ ((48 + n % 10) ∷ []))) (lt-ltb n 10 l)
 
 pub decimal-step : (n : ℕ) → 10 ≤ n → decimal n ≡ decimal (n / 10) ++ ((48 + n % 10) ∷ [])
-decimal-step n l = rw (le-ltb n 10 l) (ap (λ ds. ds ++ ((48 + n % 10) ∷ [])) (by-turns n (suc (n / 10)) (n / 10) (omega arith) (omega arith)))
+decimal-step n l = ap (λ t. cond t ((48 + n) ∷ []) (digits-by (more-digits n) (n / 10) ++ ((48 + n % 10) ∷ []))) (le-ltb n 10 l) ∙ ap (λ ds. ds ++ ((48 + n % 10) ∷ [])) (step (more-digits n) (enough n))
+  where
+    step : (m : ℕ) → n < 10 ^ suc m → digits-by m (n / 10) ≡ decimal (n / 10)
+    step zero h = absurd (omega arith)
+    step (suc m) h = let p = pow-succ' 10 (suc m) in by-turns m (more-digits (n / 10)) (n / 10) (omega arith) (enough (n / 10))
 
 pub decimal-length : (k n : ℕ) → n < 10 ^ suc k → length (decimal n) ≤ suc k
 decimal-length zero n h = rw (decimal-digit n (omega arith)) (omega arith)

@@ -26,7 +26,7 @@ chop-is : (u : List ℕ) (x : ℕ) → chop (u ++ (x ∷ [])) ≡ u
 chop-is [] x = refl
 chop-is (b ∷ u) x = chop-cons b x u ∙ ap (λ l. b ∷ l) (chop-is u x)
 
-take-front : (a b : List ℕ) → take (length a) (a ++ b) ≡ a
+pub take-front : (a b : List ℕ) → take (length a) (a ++ b) ≡ a
 take-front [] b = refl
 take-front (x ∷ a) b = ap (λ l. x ∷ l) (take-front a b)
 

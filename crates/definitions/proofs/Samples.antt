@@ -16,7 +16,7 @@ use Rattle.definitions.specs.PlainReader.{object, refusal, yes-no}
 use Rattle.definitions.specs.Decoder.{turned-down, Decodes-into}
 use Rattle.definitions.specs.Listing.{Line, Lists}
 use Rattle.definitions.proofs.ReadsOnce.{reads}
-use Rattle.definitions.proofs.Singles.{nearest-down}
+use Rattle.definitions.proofs.Singles.{nearest-down, nearest-zero}
 use Rattle.definitions.proofs.Listing.{lined}
 use Rattle.definitions.proofs.Listings.{listed}
 
@@ -76,7 +76,7 @@ tenth : Nearest 1 (negsuc 0) 0x3DCCCCCD
 tenth = nearest-down 1 0 0x3DCCCCCC (lit< tt) (record { closer = lit≤ tt; at-tie = λ e. absurd (omega arith) }) (record { closer = lit≤ tt; at-tie = λ e. absurd (omega arith) })
 
 nought : Nearest 0 (pos 0) 0
-nought = record { finite = lit< tt; closest = λ b l. omega arith; even = λ b l d e. refl }
+nought = nearest-zero
 
 -- more readings, at the limits
 lowest-integer : Reads (codes "-2147483648") (integer (negsuc 2147483647))

@@ -5,7 +5,7 @@ use mathlib.Core.Path.{_≡_, refl, sym, ap₂, subst}
 use Prim.Native.Nat.{ℕ, zero, suc, _+_, _*_, _/_, _%_, _^_, _≤_, _<_}
 use native.Mathlib.Nat.{mul-lt-mul-of-pos-right, pow-succ'}
 use native.Mathlib.Omega.{arith}
-use lib.Dec.{eqb}
+use lib.Dec.{eqb, lit<}
 use lib.IntN.{ℤ, pos, negsuc}
 use lib.Pow.{pow-pos}
 use Rattle.std.proofs.shelf.Tests.{cases-order, cases-lt, eqb-false}
@@ -210,3 +210,6 @@ pub nearest-down : (c k p : ℕ) → suc p < infinite → Beats (λ t. units t *
 nearest-down c k p l h i =
     let w = best-since (λ t. units t * 10 ^ suc k) (λ t. mul-lt-mul-of-pos-right (units-up t) (ten-pos (suc k))) (c * 2 ^ 149) (suc p) p refl l h i in
     record { finite = w .within; closest = w .closest; even = w .even }
+
+pub nearest-zero : Nearest 0 (pos 0) 0
+nearest-zero = record { finite = lit< tt; closest = λ b l. omega arith; even = λ b l d e. refl }

@@ -1,32 +1,25 @@
 -- The plain reader has an answer, a turn and a run over any source and list of calls. Assumes nothing.
-use mathlib.Core.Bool.{Bool, true, false, _||_}
+use mathlib.Core.Bool.{Bool, true, false, _||_, _&&_}
 use mathlib.Core.List.{List, [], _∷_, _++_}
 use mathlib.Core.Logic.{_⊎_, inl, inr}
-use mathlib.Core.Path.{_≡_, refl, subst}
-use Prim.Native.Nat.{ℕ, _+_, _*_, _^_, _≤_, _<_}
+use mathlib.Core.Path.{_≡_, refl, sym, ap, subst, _∙_}
+use Prim.Native.Nat.{ℕ, zero, suc, _+_, _*_, _^_, _≤_, _<_}
+use native.Mathlib.Nat.{mul-one, mul-assoc, le-mul-of-pos-right, pow-succ'}
 use native.Mathlib.Omega.{arith}
-use lib.Dec.{T, eqb}
+use lib.Dec.{T, eqb, leb, ltb, leb→le, le→leb, ltb→lt, lt→ltb}
 use lib.IntN.{ℤ, pos, negsuc}
 use lib.ListN.{length}
-use Rattle.std.proofs.shelf.Tests.{cases-lt}
 use Rattle.definitions.specs.Sources.{Ending, Meaning}
 use Rattle.definitions.specs.Grammar.{String, integer-value, real-value, Shown, Run-shows, Begins, Outcome, Comes-to}
-use Rattle.definitions.specs.PlainReader.{Parser, parse-object, parse-number, parse-name, parse-string, parse-array, Call, parses, at-end, Accepts, Near, scaled-up, scaled-down, Answer, refusal, yes-no, Judges, Piece, gap, taken, refused, carried, at-clean-end, after, Parted, Turn, takes, refuses, looks}
+use Rattle.definitions.specs.PlainReader.{Parser, parse-object, parse-number, parse-name, parse-string, parse-array, Call, parses, at-end, Accepts, accepts, Near, scaled-up, scaled-down, stays-below, near?, Answer, refusal, yes-no, Judges, Piece, gap, taken, refused, carried, at-clean-end, after, Parted, Turn, takes, refuses, looks}
 use Rattle.definitions.specs.SharedRun.{Run, stops, goes-on}
 use Rattle.definitions.proofs.Bytes.{T-from, at, either}
-use Rattle.definitions.proofs.Singles.{some-nearest}
+use Rattle.definitions.proofs.Readings.{parts, both}
+use Rattle.definitions.proofs.Singles.{some-nearest, ten-pos}
 use Rattle.definitions.proofs.GapTotal.{gapped}
 use Rattle.definitions.proofs.OutcomeTotal.{comes}
 
--- which kinds a parser accepts, computed
-abbrev accepts : Parser → ℕ → Bool
-accepts parse-object k = true
-accepts parse-number k = eqb k 1 || eqb k 2
-accepts parse-name k = eqb k 3 || eqb k 4
-accepts parse-string k = eqb k 5 || eqb k 6 || eqb k 7
-accepts parse-array k = eqb k 8
-
-accepts-so : {p : Parser} {k : ℕ} → Accepts p k → T (accepts p k)
+pub accepts-so : {p : Parser} {k : ℕ} → Accepts p k → T (accepts p k)
 accepts-so Accepts.any = tt
 accepts-so Accepts.integers = tt
 accepts-so Accepts.reals = tt
@@ -37,7 +30,7 @@ accepts-so Accepts.hex-strings = tt
 accepts-so Accepts.ascii85-strings = tt
 accepts-so Accepts.arrays = tt
 
-so-accepts : (p : Parser) (k : ℕ) → T (accepts p k) → Accepts p k
+pub so-accepts : (p : Parser) (k : ℕ) → T (accepts p k) → Accepts p k
 so-accepts parse-object k t = Accepts.any
 so-accepts parse-number k t = either (eqb k 1) (eqb k 2) (at (Accepts parse-number) k 1 Accepts.integers) (at (Accepts parse-number) k 2 Accepts.reals) t
 so-accepts parse-name k t = either (eqb k 3) (eqb k 4) (at (Accepts parse-name) k 3 Accepts.executable-names) (at (Accepts parse-name) k 4 Accepts.literal-names) t
@@ -59,18 +52,33 @@ near-up (scaled-up h l) = (h, l)
 near-down : {c k : ℕ} → Near c (negsuc k) → k < 18
 near-down (scaled-down h) = h
 
-near-or : (c : ℕ) (k : ℤ) → Near c k ⊎ (Near c k → ⊥)
-near-or c (pos k) = step (cases-lt 18 k) (cases-lt (c * 10 ^ k) (10 ^ 18))
+stays-so : (c k : ℕ) → T (stays-below c k) → c * 10 ^ k < 10 ^ 18
+stays-so c zero t = let h = ltb→lt c (10 ^ 18) t in omega (arith, mul-one c)
+stays-so c (suc k) t =
+    let (x, y) = parts (ltb c (10 ^ 18)) (stays-below (c * 10) k) t in
+    subst (λ n. n < 10 ^ 18) (mul-assoc c 10 (10 ^ k) ∙ ap (λ n. c * n) (sym (pow-succ' 10 k))) (stays-so (c * 10) k y)
+
+so-stays : (c k : ℕ) → c * 10 ^ k < 10 ^ 18 → T (stays-below c k)
+so-stays c zero h = lt→ltb c (10 ^ 18) (omega (arith, mul-one c))
+so-stays c (suc k) h =
+    let l = le-mul-of-pos-right c (ten-pos (suc k)) in
+    let i : c * 10 * 10 ^ k < 10 ^ 18 = subst (λ n. n < 10 ^ 18) (ap (λ n. c * n) (pow-succ' 10 k) ∙ sym (mul-assoc c 10 (10 ^ k))) h in
+    T-from (ltb c (10 ^ 18) && stays-below (c * 10) k) (both (ltb c (10 ^ 18)) (stays-below (c * 10) k) (lt→ltb c (10 ^ 18) (omega arith)) (so-stays (c * 10) k i))
+
+pub near-so : (c : ℕ) (k : ℤ) → T (near? c k) → Near c k
+near-so c (pos k) t = let (x, y) = parts (leb k 18) (stays-below c k) t in scaled-up (leb→le k 18 x) (stays-so c k y)
+near-so c (negsuc k) t = scaled-down (ltb→lt k 18 t)
+
+pub so-near : (c : ℕ) (k : ℤ) → Near c k → T (near? c k)
+so-near c (pos k) n = let (h, l) = near-up n in T-from (leb k 18 && stays-below c k) (both (leb k 18) (stays-below c k) (le→leb k 18 h) (so-stays c k l))
+so-near c (negsuc k) n = lt→ltb k 18 (near-down n)
+
+pub near-or : (c : ℕ) (k : ℤ) → Near c k ⊎ (Near c k → ⊥)
+near-or c k = step (near? c k) refl
   where
-    step : (18 < k) ⊎ (k ≤ 18) → (c * 10 ^ k < 10 ^ 18) ⊎ (10 ^ 18 ≤ c * 10 ^ k) → Near c (pos k) ⊎ (Near c (pos k) → ⊥)
-    step (inl h) w = inr (λ n. let m = near-up n in omega arith)
-    step (inr h) (inl l) = inl (scaled-up h l)
-    step (inr h) (inr l) = inr (λ n. let m = near-up n .1 in omega arith)
-near-or c (negsuc k) = step (cases-lt k 18)
-  where
-    step : (k < 18) ⊎ (18 ≤ k) → Near c (negsuc k) ⊎ (Near c (negsuc k) → ⊥)
-    step (inl h) = inl (scaled-down h)
-    step (inr h) = inr (λ n. let m = near-down n in omega arith)
+    step : (t : Bool) → near? c k ≡ t → Near c k ⊎ (Near c k → ⊥)
+    step true e = inl (near-so c k (T-from (near? c k) e))
+    step false e = inr (λ n. subst T e (so-near c k n))
 
 -- a number's object has a number
 begins-value : {l : List ℕ} {e : Ending} {o : Shown} {r : List ℕ} → Begins l e o r → T (accepts parse-number (o .kind))

@@ -7,11 +7,12 @@ use lib.ListN.{length, length-append, take, drop}
 use Rattle.definitions.specs.Sources.{Ending, clean, Meaning, In-limit, window, if-there}
 use Rattle.definitions.specs.Grammar.{Text, String, Shown, Run-shows, Begins}
 use Rattle.definitions.specs.LiteralText.{Decodes}
-use Rattle.definitions.specs.PlainReader.{Parser, Call, Accepts, Handed, Answer, object, handed, Judges, Piece, joined, Turn}
-use Rattle.definitions.specs.Decoder.{Told, decoded, Decodes-into, Decodes-object}
-use Rattle.definitions.specs.SharedRun.{Run, stops, goes-on, Among, first, later, Decodes-fully, from, opener-length, inside-source, Shared}
+use Rattle.definitions.specs.PlainReader.{Parser, Call, Accepts, Handed, Answer, object, handed, inside-source, Judges, Piece, joined, Turn}
+use Rattle.definitions.specs.Decoder.{Told, decoded, Decodes-into, Decodes-held}
+use Rattle.definitions.specs.SharedRun.{Run, stops, goes-on, Among, first, later, Decodes-fully, from, opener-length, Shared}
 use Rattle.definitions.proofs.Cut.{begins-whole, turn-cut, run-cut, joined-++}
 use Rattle.definitions.proofs.Sole.{sole}
+use Rattle.definitions.proofs.OutcomeOnce.{take-front}
 use Rattle.definitions.proofs.OutcomeTotal.{one-outcome}
 use Rattle.definitions.proofs.Decoding.{text-decodes, one-decoding, never-ends}
 
@@ -90,10 +91,11 @@ into (Decodes-into.backslash y) d x e h = absurd (never-ends x y)
 into (Decodes-into.too-short c y l) d x e h = absurd (omega arith)
 into {buffer = b} (Decodes-into.writes c y l) d x e h = let k = one-decoding y x in (ap (λ n. decoded (length n)) k, ap (λ n. n ++ drop (length n) b) k)
 
-unrefused-one : {buffer : List ℕ} {h : Handed} {told : Told} {after : List ℕ} → Decodes-object buffer h told after → h .kind ≡ 5 → (d : List ℕ) → Decodes (h .inside) d → length (h .inside) ≤ length buffer → (told ≡ decoded (length d)) × (after ≡ d ++ drop (length d) buffer)
-unrefused-one (Decodes-object.other-type n) k d x l = absurd (n (subst (λ y. Accepts Parser.parse-string y) (sym k) Accepts.literal-strings))
-unrefused-one (Decodes-object.encoded a n) k d x l = absurd (n k)
-unrefused-one (Decodes-object.literal e y) k d x l = into y d x refl l
+unrefused-one : {buffer : List ℕ} {kind start : ℕ} {inside : Meaning} {told : Told} {after : List ℕ} → Decodes-held buffer kind start inside told after → kind ≡ 5 → inside .ending ≡ clean → (d : List ℕ) → Decodes (inside .to-come) d → length (inside .to-come) ≤ length buffer
+    → (told ≡ decoded (length d)) × (after ≡ d ++ drop (length d) buffer)
+unrefused-one (Decodes-held.other-type n) k c d x l = absurd (n (subst (λ y. Accepts Parser.parse-string y) (sym k) Accepts.literal-strings))
+unrefused-one (Decodes-held.encoded a n) k c d x l = absurd (n k)
+unrefused-one (Decodes-held.literal e y) k c d x l = into y d x c l
 
 text-fully : (h : Handed) → h .kind ≡ 5 → Text (h .inside) → Decodes-fully h
 text-fully h k x = let (d, y, l) = text-decodes x in record {
@@ -101,7 +103,7 @@ text-fully h k x = let (d, y, l) = text-decodes x in record {
   decodes = y;
   sole = λ e z. one-decoding z y;
   no-longer = l;
-  unrefused = λ buffer m told after z. unrefused-one z k d y m;
+  unrefused = λ buffer m told after z. unrefused-one z k refl d y m;
 }
 
 -- the bytes before and after the inside
@@ -118,10 +120,6 @@ begins-parts (Begins.run u z h s x Run-shows.name-run) = ([], [], append-nil u, 
 drop-front : (a b : List ℕ) → drop (length a) (a ++ b) ≡ b
 drop-front [] b = refl
 drop-front (x ∷ a) b = drop-front a b
-
-take-front : (a b : List ℕ) → take (length a) (a ++ b) ≡ a
-take-front [] b = refl
-take-front (x ∷ a) b = ap (λ l. x ∷ l) (take-front a b)
 
 there : (a b : List ℕ) (e f : Ending) → if-there (length a) (a ++ b) e f ≡ e
 there [] b e f = refl

@@ -5,7 +5,7 @@ use Prim.Native.Nat.{ℕ, _≤_, _<_}
 use lib.ListN.{length, drop}
 use Rattle.definitions.specs.Sources.{Ending, clean, fault, Meaning}
 use Rattle.definitions.specs.LiteralText.{Decodes, Ends-in-backslash}
-use Rattle.definitions.specs.PlainReader.{Handed, Accepts, parse-string}
+use Rattle.definitions.specs.PlainReader.{Handed, Accepts, parse-string, inside-source}
 
 -- what the decoder answers
 pub data Told : Type 0 where
@@ -29,11 +29,15 @@ pub data Decodes-into (buffer text : List ℕ) (place : ℕ) : Ending → Told �
 abbrev pub Decodes-source : List ℕ → Meaning → Told → List ℕ → Type 0
 Decodes-source buffer m told after = Decodes-into buffer (m .to-come) (m .place) (m .ending) told after
 
--- the decoder of an object, tested in the order 4, 6, then as its text
-pub data Decodes-object (buffer : List ℕ) (h : Handed) : Told → List ℕ → Type 0 where
+-- the decoder of an object by its kind, its start and its inside as a source: tested in the order 4, 6, then as its text
+pub data Decodes-held (buffer : List ℕ) (kind start : ℕ) (inside : Meaning) : Told → List ℕ → Type 0 where
   -- 4: no string
-  other-type : (Accepts parse-string (h .kind) → ⊥) → Decodes-object buffer h (turned-down 4 (h .start) clean) buffer
+  other-type : (Accepts parse-string kind → ⊥) → Decodes-held buffer kind start inside (turned-down 4 start clean) buffer
   -- 6: a hex or ASCII85 string
-  encoded : Accepts parse-string (h .kind) → (h .kind ≡ 5 → ⊥) → Decodes-object buffer h (turned-down 6 (h .start) clean) buffer
+  encoded : Accepts parse-string kind → (kind ≡ 5 → ⊥) → Decodes-held buffer kind start inside (turned-down 6 start clean) buffer
   -- a literal string: as its text, at the object's start
-  literal : {told : Told} {after : List ℕ} → h .kind ≡ 5 → Decodes-into buffer (h .inside) (h .start) clean told after → Decodes-object buffer h told after
+  literal : {told : Told} {after : List ℕ} → kind ≡ 5 → Decodes-into buffer (inside .to-come) start (inside .ending) told after → Decodes-held buffer kind start inside told after
+
+-- the decoder of an object that was handed over, whose inside ends cleanly
+abbrev pub Decodes-object : List ℕ → Handed → Told → List ℕ → Type 0
+Decodes-object buffer h told after = Decodes-held buffer (h .kind) (h .start) (inside-source h) told after

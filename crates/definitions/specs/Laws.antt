@@ -13,12 +13,13 @@ use Rattle.definitions.specs.Moves.{stepped, past-class, Passed}
 use Rattle.definitions.specs.Gaps.{Gap, Past-gap, after-gap}
 use Rattle.definitions.specs.Numbers.{Reading, Reads}
 use Rattle.definitions.specs.Readings.{reading}
+use Rattle.definitions.specs.Reasons.{Kind, kind-number, Reason, reason-number}
 use Rattle.definitions.specs.Grammar.{Text, Shown, Begins, opener, Refuses, an-object, a-refusal, Comes-to, One-outcome}
 use Rattle.definitions.specs.Outcomes.{gap-of, outcome}
 use Rattle.definitions.specs.LiteralText.{Decodes, Ends-in-backslash, paired, decode}
 use Rattle.definitions.specs.Singles.{Nearest, Integer-of, to-integer}
-use Rattle.definitions.specs.PlainReader.{Parser, Call, parses, at-end, Handed, Answer, refusal, yes-no, Judges, Piece, gap, taken, refused, carried, at-clean-end, after, Parted, Turn}
-use Rattle.definitions.specs.Decoder.{Told, Decodes-source, Decodes-object}
+use Rattle.definitions.specs.PlainReader.{Parser, Call, parses, at-end, Accepts, accepts, Near, near?, Answer, refusal, yes-no, Judges, Piece, gap, taken, refused, carried, at-clean-end, after, Parted, Turn}
+use Rattle.definitions.specs.Decoder.{Told, turned-down, Decodes-source, Decodes-held}
 use Rattle.definitions.specs.SharedRun.{Run, Shared}
 use Rattle.definitions.specs.Listing.{Written, decimal, Line, line, Listed, In-range, Writes-line, Lists, listing}
 
@@ -116,9 +117,18 @@ Decoding-computed = (t : List ℕ) → T (paired t) → Decodes t (decode t)
 abbrev pub One-decoded-source : Type 0
 One-decoded-source = (buffer : List ℕ) (m : Meaning) → (told : Told) × (after : List ℕ) × Decodes-source buffer m told after × (length after ≡ length buffer) × ((t : Told) (a : List ℕ) → Decodes-source buffer m t a → (t ≡ told) × (a ≡ after))
 
--- and so has the decoder of an object
+-- and so has the decoder of an object, whatever its kind, start and inside
 abbrev pub One-decoded-object : Type 0
-One-decoded-object = (buffer : List ℕ) (h : Handed) → (told : Told) × (after : List ℕ) × Decodes-object buffer h told after × (length after ≡ length buffer) × ((t : Told) (a : List ℕ) → Decodes-object buffer h t a → (t ≡ told) × (a ≡ after))
+One-decoded-object = (buffer : List ℕ) (kind start : ℕ) (inside : Meaning)
+    → (told : Told) × (after : List ℕ) × Decodes-held buffer kind start inside told after × (length after ≡ length buffer) × ((t : Told) (a : List ℕ) → Decodes-held buffer kind start inside t a → (t ≡ told) × (a ≡ after))
+
+-- which kinds a parser accepts is computed
+abbrev pub Accepts-computed : Type 0
+Accepts-computed = (p : Parser) (k : ℕ) → (T (accepts p k) → Accepts p k) × (Accepts p k → T (accepts p k))
+
+-- which reals are near is computed factor by factor
+abbrev pub Near-computed : Type 0
+Near-computed = (c : ℕ) (k : ℤ) → (T (near? c k) → Near c k) × (Near c k → T (near? c k))
 
 -- a parser answers an object in one way
 abbrev pub One-answer : Type 0
@@ -146,6 +156,17 @@ Refuses-computed = (s : Meaning) (p : Parser) (n : ℕ) (piece rest : List ℕ) 
 -- the question for the end passes the gap that is computed
 abbrev pub Looks-computed : Type 0
 Looks-computed = (s : Meaning) → Turn s at-end (yes-no (at-clean-end (after-gap (s .to-come)) (s .ending))) (gap (gap-of (s .to-come)) ∷ []) (after s (gap-of (s .to-come)) (after-gap (s .to-come)))
+
+-- each object is of one of the kinds, and each number is that of one kind
+abbrev pub One-kind : Type 0
+One-kind = ((bs : List ℕ) (e : Ending) (o : Shown) (rest : List ℕ) → Begins bs e o rest → (k : Kind) × (o .kind ≡ kind-number k)) × ((j k : Kind) → kind-number j ≡ kind-number k → j ≡ k)
+
+-- each refusal, of a call or of the decoder, has one of the reasons, and each number is that of one reason
+abbrev pub One-reason : Type 0
+One-reason = ((s : Meaning) (call : Call) (n place : ℕ) (e : Ending) (p : List Piece) (t : Meaning) → Turn s call (refusal n place e) p t → (r : Reason) × (n ≡ reason-number r))
+    × ((buffer : List ℕ) (m : Meaning) (n place : ℕ) (e : Ending) (after : List ℕ) → Decodes-source buffer m (turned-down n place e) after → (r : Reason) × (n ≡ reason-number r))
+    × ((buffer : List ℕ) (kind start : ℕ) (inside : Meaning) (n place : ℕ) (e : Ending) (after : List ℕ) → Decodes-held buffer kind start inside (turned-down n place e) after → (r : Reason) × (n ≡ reason-number r))
+    × ((q r : Reason) → reason-number q ≡ reason-number r → q ≡ r)
 
 -- a list of calls on a source has one run
 abbrev pub One-run : Type 0

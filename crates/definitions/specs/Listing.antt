@@ -77,9 +77,13 @@ abbrev pub digits-by : ℕ → ℕ → List ℕ
 digits-by zero n = []
 digits-by (suc turns) n = cond (ltb n 10) ((digit-zero + n) ∷ []) (digits-by turns (n / 10) ++ ((digit-zero + n % 10) ∷ []))
 
+-- a bound on the digits after the first: 19 below 10 ^ 20, else the number itself
+abbrev pub more-digits : ℕ → ℕ
+more-digits n = cond (ltb n (10 ^ 20)) 19 n
+
 -- the digits of a number, computed: the last is the remainder by 10, and those before it are the quotient's
 abbrev pub decimal : ℕ → List ℕ
-decimal n = digits-by (suc n) n
+decimal n = digits-by (suc (more-digits n)) n
 
 -- the same with a minus in front of what is below 0
 abbrev pub signed-decimal : ℤ → List ℕ

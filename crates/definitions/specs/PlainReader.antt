@@ -1,9 +1,9 @@
 -- The plain reader: what each call answers, which bytes it passes, and where it then stands. Assumes nothing.
-use mathlib.Core.Bool.{Bool, true, false, cond}
+use mathlib.Core.Bool.{Bool, true, false, cond, _||_, _&&_}
 use mathlib.Core.List.{List, [], _∷_, _++_}
 use mathlib.Core.Path.{_≡_}
-use Prim.Native.Nat.{ℕ, _+_, _*_, _^_, _≤_, _<_}
-use lib.Dec.{eqb}
+use Prim.Native.Nat.{ℕ, zero, suc, _+_, _*_, _^_, _≤_, _<_}
+use lib.Dec.{eqb, leb, ltb}
 use lib.IntN.{ℤ, pos, negsuc}
 use lib.ListN.{length}
 use Rattle.definitions.specs.Sources.{Ending, clean, fault, Meaning}
@@ -52,12 +52,30 @@ pub data Accepts : Parser → ℕ → Type 0 where
   -- 8 array
   arrays : Accepts parse-array 8
 
+-- the same, computed
+abbrev pub accepts : Parser → ℕ → Bool
+accepts parse-object k = true
+accepts parse-number k = eqb k 1 || eqb k 2
+accepts parse-name k = eqb k 3 || eqb k 4
+accepts parse-string k = eqb k 5 || eqb k 6 || eqb k 7
+accepts parse-array k = eqb k 8
+
 -- a real near enough for a single: k from -18 to 18, and c × 10 ^ k below 10 ^ 18 where k is above 0 (where it is 0, c is below that already)
 pub data Near : ℕ → ℤ → Type 0 where
   -- k from 0 to 18
   scaled-up : {c k : ℕ} → k ≤ 18 → c * 10 ^ k < 10 ^ 18 → Near c (pos k)
   -- k from -18 to -1
   scaled-down : {c k : ℕ} → k < 18 → Near c (negsuc k)
+
+-- c stays below 10 ^ 18 at each of k factors of 10
+abbrev pub stays-below : ℕ → ℕ → Bool
+stays-below c zero = ltb c (10 ^ 18)
+stays-below c (suc k) = ltb c (10 ^ 18) && stays-below (c * 10) k
+
+-- a real near enough for a single, computed factor by factor
+abbrev pub near? : ℕ → ℤ → Bool
+near? c (pos k) = leb k 18 && stays-below c k
+near? c (negsuc k) = ltb k 18
 
 -- an object handed over, by its places in the source
 pub record Handed : Type 0 where
@@ -88,6 +106,10 @@ pub data Answer : Type 0 where
 -- an object shown, at its place
 abbrev pub handed : ℕ → Shown → Handed
 handed at o = record { kind = o .kind; start = at; end = at + length (o .whole); inside = o .inside; value = o .value }
+
+-- the inside as a source: its bytes, from place 0, with a clean end
+abbrev pub inside-source : Handed → Meaning
+inside-source h = record { to-come = h .inside; place = 0; ending = clean }
 
 -- what a parser answers of an object that it took at a place
 pub data Judges : Parser → ℕ → Shown → Answer → Type 0 where

@@ -5,11 +5,11 @@ use mathlib.Core.Path.{_≡_}
 use Prim.Native.Nat.{ℕ, _+_, _-_, _≤_}
 use lib.Dec.{leb, eqb}
 use lib.ListN.{length, drop}
-use Rattle.definitions.specs.Sources.{Ending, clean, Meaning, window}
+use Rattle.definitions.specs.Sources.{Ending, Meaning, window}
 use Rattle.definitions.specs.Gaps.{Past-gap}
 use Rattle.definitions.specs.Grammar.{One-outcome}
 use Rattle.definitions.specs.LiteralText.{Decodes}
-use Rattle.definitions.specs.PlainReader.{Call, Handed, Answer, object, Piece, joined, Turn}
+use Rattle.definitions.specs.PlainReader.{Call, Handed, Answer, object, inside-source, Piece, joined, Turn}
 use Rattle.definitions.specs.Decoder.{Told, decoded, Decodes-object}
 
 -- call after call, each going on where the one before it stopped
@@ -34,10 +34,6 @@ opener-length kind = cond (leb kind 3) 0 (cond (eqb kind 7) 2 1)
 -- a source as it was at a later place
 abbrev pub from : Meaning → ℕ → Meaning
 from s place = record { to-come = drop (place - s .place) (s .to-come); place = place; ending = s .ending }
-
--- the inside as a source: its bytes, from place 0, with a clean end
-abbrev pub inside-source : Handed → Meaning
-inside-source h = record { to-come = h .inside; place = 0; ending = clean }
 
 -- a literal string decodes, to one row of bytes, and into any buffer at least as long as its text without refusal
 pub record Decodes-fully (h : Handed) : Type 0 where

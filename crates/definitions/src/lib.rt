@@ -1,7 +1,7 @@
 ghost use Rattle.definitions.specs.Laws.{One-front, There-tests, Lent-in-limit, Window-in-limit, Eexec-in-limit, Step-passes, Class-passes, Passed-in-limit};
 ghost use Rattle.definitions.specs.Laws.{One-gap, Gap-computed, One-reading, Reading-computed, One-each-gap, Outcome-computed, Two-exactly};
 ghost use Rattle.definitions.specs.Laws.{Decodes-or-ends, Never-both, Text-decodes, One-decoding, Decoding-computed, One-decoded-source, One-decoded-object};
-ghost use Rattle.definitions.specs.Laws.{One-nearest, One-integer, One-answer, One-turn, Parted-computed, Takes-computed, Refuses-computed, Looks-computed, One-run, Run-in-limit, Run-is-shared};
+ghost use Rattle.definitions.specs.Laws.{One-nearest, One-integer, Accepts-computed, Near-computed, One-answer, One-turn, Parted-computed, Takes-computed, Refuses-computed, Looks-computed, One-kind, One-reason, One-run, Run-in-limit, Run-is-shared};
 ghost use Rattle.definitions.specs.Laws.{One-text, One-line, Line-fits, Turn-fits, One-writing, One-listing};
 ghost use Rattle.definitions.specs.Worked.{Worked};
 
@@ -49,12 +49,16 @@ pub fn text_stands() -> u8
 pub fn reader_stands() -> u8
     ensures nearest { λ _. ⌜ One-nearest ⌝ }
     ensures integer { λ _. ⌜ One-integer ⌝ }
+    ensures accepts { λ _. ⌜ Accepts-computed ⌝ }
+    ensures near { λ _. ⌜ Near-computed ⌝ }
     ensures answer { λ _. ⌜ One-answer ⌝ }
     ensures turn { λ _. ⌜ One-turn ⌝ }
     ensures parts { λ _. ⌜ Parted-computed ⌝ }
     ensures takes { λ _. ⌜ Takes-computed ⌝ }
     ensures refuses { λ _. ⌜ Refuses-computed ⌝ }
     ensures looks { λ _. ⌜ Looks-computed ⌝ }
+    ensures kind { λ _. ⌜ One-kind ⌝ }
+    ensures reason { λ _. ⌜ One-reason ⌝ }
     ensures run { λ _. ⌜ One-run ⌝ }
     ensures stays { λ _. ⌜ Run-in-limit ⌝ }
     ensures shared { λ _. ⌜ Run-is-shared ⌝ }

@@ -1,5 +1,5 @@
 use Rattle.definitions.proofs.Decoding.{decodes-or-ends, never-ends, text-decodes, one-decoding, decodes-as}
-use Rattle.definitions.proofs.DecoderOnce.{some-into, one-into, into-length, some-object, one-object, object-length}
+use Rattle.definitions.proofs.DecoderOnce.{some-into, one-into, into-length, some-held, one-held, held-length}
 use Rattle.definitions.proofs.text_stands.Needs as need
 
 pub returns : need.returns
@@ -10,5 +10,5 @@ returns c = record {
   one = λ t c d x y. one-decoding x y;
   decodes = decodes-as;
   source = λ b m. let (s, a, x) = some-into b (m .to-come) (m .place) (m .ending) in (s, a, x, into-length x, λ t c y. one-into y x);
-  object = λ b h. let (s, a, x) = some-object b h in (s, a, x, object-length x, λ t c y. one-object y x);
+  object = λ b kind start inside. let (s, a, x) = some-held b kind start inside in (s, a, x, held-length x, λ t c y. one-held y x);
 }
