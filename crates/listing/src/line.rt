@@ -8,7 +8,7 @@ ghost use Rattle.definitions.specs.Listing.{decimal, «signed-decimal», «minu
 ghost use Rattle.definitions.specs.PlainReader.{object, refusal, «yes-no»};
 ghost use Rattle.definitions.specs.Sources.{clean};
 ghost use Rattle.postscript.specs.Objects.{«as-handed», «value-of», «part-of»};
-ghost use Rattle.listing.specs.Appending.{Appends};
+ghost use Rattle.listing.specs.Appending.{Appends, field};
 use super::digits::put;
 use super::digits::put_decimal;
 use super::digits::put_signed;
@@ -31,8 +31,8 @@ fn count<S: Source>(source: S) -> u32
 
 // A number and a comma.
 fn put_field(buffer: &mut [u8], at: usize, n: u64) -> usize
-    requires { ⌜ at + length (decimal n ++ (comma ∷ [])) ≤ length (now buffer) ⌝ }
-    ensures { λ r. ⌜ Appends (decimal n ++ (comma ∷ [])) (now (buffer .entry)) at (now (buffer .exit)) r ⌝ }
+    requires { ⌜ at + length (field n) ≤ length (now buffer) ⌝ }
+    ensures { λ r. ⌜ Appends (field n) (now (buffer .entry)) at (now (buffer .exit)) r ⌝ }
 {
     let end = put_decimal(buffer, at, n);
     put(buffer, end, b",")
@@ -74,16 +74,24 @@ fn put_value<I: Source>(buffer: &mut [u8], at: usize, object: &Object<I>) -> usi
     }
 }
 
+// Kind, start and end, each with a comma.
+fn put_head(buffer: &mut [u8], kind: u8, start: u32, end: u32) -> usize
+    requires { ⌜ length (field kind ++ (field start ++ field end)) ≤ length (now buffer) ⌝ }
+    ensures { λ r. ⌜ Appends (field kind ++ (field start ++ field end)) (now (buffer .entry)) 0 (now (buffer .exit)) r ⌝ }
+{
+    let after_kind = put_field(buffer, 0, kind as u64);
+    let after_start = put_field(buffer, after_kind, start as u64);
+    put_field(buffer, after_start, end as u64)
+}
+
 // Kind, start, end and value, parted by commas.
 fn put_object<I: Source>(buffer: &mut [u8], taken: &Object<I>) -> usize
     requires { ⌜ length (line 0 (object (as-handed (I·Source .meaning) (now taken)))) ≤ length (now buffer) ⌝ }
     ensures { λ r. ⌜ Appends (line 0 (object (as-handed (I·Source .meaning) (now (taken .entry))))) (now (buffer .entry)) 0 (now (buffer .exit)) r ⌝ }
 {
     let part = taken.part();
-    let after_kind = put_field(buffer, 0, taken.kind().number() as u64);
-    let after_start = put_field(buffer, after_kind, part.start as u64);
-    let after_end = put_field(buffer, after_start, part.end as u64);
-    let after_value = put_value(buffer, after_end, taken);
+    let after_head = put_head(buffer, taken.kind().number(), part.start, part.end);
+    let after_value = put_value(buffer, after_head, taken);
     put(buffer, after_value, b"\n")
 }
 
