@@ -174,21 +174,21 @@ lined place (yes-no true) l = of-end (decimal place) (written place)
 lined place (yes-no false) l = absurd l
 
 -- a line fits 48 bytes
-ten : (n : ℕ) → n ≤ limit → length (decimal n) ≤ 10
+pub ten : (n : ℕ) → n ≤ limit → length (decimal n) ≤ 10
 ten n h = decimal-length 9 n (omega arith)
 
-signed-length : (low high d : ℕ) (z : ℤ) → T (leZ (negsuc low) z) → T (leZ z (pos high)) → suc low < 10 ^ suc d → high < 10 ^ suc d → length (signed-decimal z) ≤ suc (suc d)
+pub signed-length : (low high d : ℕ) (z : ℤ) → T (leZ (negsuc low) z) → T (leZ z (pos high)) → suc low < 10 ^ suc d → high < 10 ^ suc d → length (signed-decimal z) ≤ suc (suc d)
 signed-length low high d (pos n) h l p q = let x = leb→le n high l in let y = decimal-length d n (omega arith) in omega arith
 signed-length low high d (negsuc n) h l p q = let x = leb→le n low h in let y = decimal-length d (suc n) (omega arith) in omega arith
 
-minus-length : (m : Bool) → length (minus-if m) ≤ 1
+pub minus-length : (m : Bool) → length (minus-if m) ≤ 1
 minus-length true = omega arith
 minus-length false = omega arith
 
 real-length : (m c k : List ℕ) → length m ≤ 1 → length c ≤ 18 → length k ≤ 3 → length (m ++ (c ++ (101 ∷ k))) ≤ 23
 real-length m c k x y z = omega (arith, length-append m (c ++ (101 ∷ k)), length-append c (101 ∷ k))
 
-value-length : (count : ℕ) (v : Value) → count ≤ limit → Value-in-range v → length (value-text count v) ≤ 23
+pub value-length : (count : ℕ) (v : Value) → count ≤ limit → Value-in-range v → length (value-text count v) ≤ 23
 value-length count none l r = let x = ten count l in omega arith
 value-length count (integer-value z) l (a, b) = let x = signed-length 2147483647 2147483647 9 z (a .le) (b .le) (omega arith) (omega arith) in omega arith
 value-length count (real-value m c k) l (a, b, d) =

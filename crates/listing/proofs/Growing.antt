@@ -1,9 +1,9 @@
 -- Text that grows at the front of a buffer, piece after piece. Assumes nothing.
 use mathlib.Core.Bool.{Bool}
 use mathlib.Core.List.{List, [], _∷_, _++_, append-assoc}
-use mathlib.Core.Path.{_≡_, refl, sym, ap, ap₂, _∙_}
+use mathlib.Core.Path.{_≡_, refl, sym, ap, ap₂, subst₂, _∙_}
 use Prim.Native.Nat.{ℕ, _+_, _≤_}
-use native.Mathlib.Nat.{add-assoc}
+use native.Mathlib.Nat.{add-assoc, zero-add}
 use native.Mathlib.Omega.{arith}
 use lib.Chars.{codes}
 use lib.IntN.{ℤ}
@@ -12,7 +12,8 @@ use lib.Seq.{take-append-seam, drop-append-seam}
 use Rattle.std.proofs.shelf.Lists.{drop-drop}
 use Rattle.std.proofs.shelf.Parts.{drop-append-drop}
 use Rattle.definitions.specs.Bytes.{comma, feed-byte, small-e}
-use Rattle.definitions.specs.Listing.{decimal, signed-decimal, minus-if}
+use Rattle.definitions.specs.Decoder.{decoded}
+use Rattle.definitions.specs.Listing.{decimal, signed-decimal, minus-if, Writes-line}
 use Rattle.listing.specs.Appending.{lined, Appends, field}
 
 -- a text written over the buffer at a place
@@ -60,3 +61,9 @@ refusal-length n p = ap (λ t. length (codes "refused," ++ t)) (sym (one-field n
 
 pub end-length : (p : ℕ) → length (codes "end," ++ (decimal p ++ (feed-byte ∷ []))) ≡ 4 + (length (decimal p) + 1)
 end-length p = simp length-append (omega arith)
+
+-- a whole line at the front of a long enough buffer
+pub whole-line : {buffer text now : List ℕ} {to : ℕ} → 48 ≤ length buffer → Appends text buffer 0 now to → Writes-line buffer text (decoded to) now
+whole-line {buffer} {text} {now} {to} h a =
+    let n : to ≡ length text = a .end ∙ zero-add (length text) in
+    subst₂ (λ t l. Writes-line buffer text (decoded t) l) (sym n) (sym (a .grows [] buffer refl refl)) (Writes-line.writes h)

@@ -7,6 +7,10 @@ use Rattle.definitions.specs.PlainReader.{Answer, object, refusal, yes-no}
 use Rattle.definitions.specs.Sources.{Meaning}
 use Rattle.postscript.specs.Objects.{as-handed}
 use Rattle.postscript.specs.Refusals.{number-of, fault-of}
+use Rattle.std.specs.declared.result.Result.{Result}
+use Rattle.std.specs.declared.result.Result.the-variants.{Ok, Err}
+use Rattle.definitions.specs.Decoder.{Told, decoded, turned-down}
+use Rattle.postscript.specs.declared.error.Refusal.{Refusal}
 use Rattle.listing.specs.declared.entry.Entry.{Entry}
 use Rattle.listing.specs.declared.entry.Entry.the-variants.{Object, Refused, End}
 
@@ -25,3 +29,8 @@ place-of (End place) = place
 -- the bytes of its line
 abbrev pub line-of : {I : Type 0} → (I → Meaning) → Entry I → List ℕ
 line-of meaning e = line (place-of e) (answer-of meaning e)
+
+-- what a call that writes a line answers: the line's length, or a refusal
+abbrev pub told : Result ℕ Refusal → Told
+told (Ok n) = decoded n
+told (Err r) = turned-down (number-of (r .reason)) (r .place) (fault-of (r .reason))

@@ -1,3 +1,4 @@
 mod digits;
 pub mod entry;
-pub mod line;
+mod line;
+pub mod lines;

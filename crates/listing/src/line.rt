@@ -60,10 +60,11 @@ fn put_real(buffer: &mut [u8], at: usize, negative: bool, c: u64, k: i64) -> usi
     put_signed(buffer, after_e, k)
 }
 
-// The value of an object: an integer; a real; else the count of bytes inside.
+// The value of an object: an integer; a real; else the count of bytes inside. At most 23 bytes.
 fn put_value<I: Source>(buffer: &mut [u8], at: usize, object: &Object<I>) -> usize
-    requires { ⌜ at + length (value-text (length (I·Source .meaning (part-of (now object) .inside) .to-come)) (value-of (now object))) ≤ length (now buffer) ⌝ }
-    ensures { λ r. ⌜ Appends (value-text (length (I·Source .meaning (part-of (now (object .entry)) .inside) .to-come)) (value-of (now (object .entry)))) (now (buffer .entry)) at (now (buffer .exit)) r ⌝ }
+    requires { ⌜ at + 23 ≤ length (now buffer) ⌝ }
+    ensures text { λ r. ⌜ Appends (value-text (length (I·Source .meaning (part-of (now (object .entry)) .inside) .to-come)) (value-of (now (object .entry)))) (now (buffer .entry)) at (now (buffer .exit)) r ⌝ }
+    ensures short { λ r. ⌜ r ≤ at + 23 ⌝ }
 {
     match object {
         Object::Integer(_, n) => put_signed(buffer, at, i64::from(*n)),
@@ -74,10 +75,11 @@ fn put_value<I: Source>(buffer: &mut [u8], at: usize, object: &Object<I>) -> usi
     }
 }
 
-// Kind, start and end, each with a comma.
+// Kind, start and end, each with a comma. At most 24 bytes.
 fn put_head(buffer: &mut [u8], kind: u8, start: u32, end: u32) -> usize
-    requires { ⌜ length (field kind ++ (field start ++ field end)) ≤ length (now buffer) ⌝ }
-    ensures { λ r. ⌜ Appends (field kind ++ (field start ++ field end)) (now (buffer .entry)) 0 (now (buffer .exit)) r ⌝ }
+    requires { ⌜ kind < 10 ⌝ ∗ ⌜ 24 ≤ length (now buffer) ⌝ }
+    ensures text { λ r. ⌜ Appends (field kind ++ (field start ++ field end)) (now (buffer .entry)) 0 (now (buffer .exit)) r ⌝ }
+    ensures short { λ r. ⌜ r ≤ 24 ⌝ }
 {
     let after_kind = put_field(buffer, 0, kind as u64);
     let after_start = put_field(buffer, after_kind, start as u64);
@@ -85,8 +87,8 @@ fn put_head(buffer: &mut [u8], kind: u8, start: u32, end: u32) -> usize
 }
 
 // Kind, start, end and value, parted by commas.
-fn put_object<I: Source>(buffer: &mut [u8], taken: &Object<I>) -> usize
-    requires { ⌜ length (line 0 (object (as-handed (I·Source .meaning) (now taken)))) ≤ length (now buffer) ⌝ }
+pub fn put_object<I: Source>(buffer: &mut [u8], taken: &Object<I>) -> usize
+    requires { ⌜ 48 ≤ length (now buffer) ⌝ }
     ensures { λ r. ⌜ Appends (line 0 (object (as-handed (I·Source .meaning) (now (taken .entry))))) (now (buffer .entry)) 0 (now (buffer .exit)) r ⌝ }
 {
     let part = taken.part();
@@ -96,7 +98,7 @@ fn put_object<I: Source>(buffer: &mut [u8], taken: &Object<I>) -> usize
 }
 
 // The word refused, the number and the place.
-fn put_refusal(buffer: &mut [u8], number: u8, place: u32) -> usize
+pub fn put_refusal(buffer: &mut [u8], number: u8, place: u32) -> usize
     requires { ⌜ length (line 0 (refusal number place clean)) ≤ length (now buffer) ⌝ }
     ensures { λ r. ⌜ Appends (line 0 (refusal number place clean)) (now (buffer .entry)) 0 (now (buffer .exit)) r ⌝ }
 {
@@ -107,7 +109,7 @@ fn put_refusal(buffer: &mut [u8], number: u8, place: u32) -> usize
 }
 
 // The word end and the place.
-fn put_end(buffer: &mut [u8], place: u32) -> usize
+pub fn put_end(buffer: &mut [u8], place: u32) -> usize
     requires { ⌜ length (line place (yes-no true)) ≤ length (now buffer) ⌝ }
     ensures { λ r. ⌜ Appends (line place (yes-no true)) (now (buffer .entry)) 0 (now (buffer .exit)) r ⌝ }
 {

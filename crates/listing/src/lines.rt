@@ -1,0 +1,31 @@
+ghost use Rattle.definitions.specs.Listing.{«Writes-line»};
+ghost use Rattle.listing.specs.Entries.{«line-of», told};
+use super::entry::Entry;
+use super::line::put_end;
+use super::line::put_object;
+use super::line::put_refusal;
+use postscript::error::Reason;
+use postscript::error::Refusal;
+use reader::source::Source;
+
+// No line is longer.
+pub const LONGEST: usize = 48;
+
+// Writes the line of an entry to the front of a buffer, and answers its length; the bytes past it
+// stay. A buffer that is shorter than the longest line is refused, and stays as it was.
+pub fn write_line<I: Source>(entry: &Entry<I>, buffer: &mut [u8]) -> Result<usize, Refusal>
+    ensures { λ r. ⌜ Writes-line (now (buffer .entry)) (line-of (I·Source .meaning) (now (entry .entry))) (told r) (now (buffer .exit)) ⌝ }
+{
+    if buffer.len() < LONGEST {
+        return Err(Refusal {
+            place: 0,
+            reason: Reason::ShortBuffer,
+        });
+    }
+    let end = match entry {
+        Entry::Object(object) => put_object(buffer, object),
+        Entry::Refused(refusal) => put_refusal(buffer, refusal.number(), refusal.place),
+        Entry::End(place) => put_end(buffer, *place),
+    };
+    Ok(end)
+}
