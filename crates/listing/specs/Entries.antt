@@ -26,6 +26,10 @@ place-of (Object o) = 0
 place-of (Refused r) = 0
 place-of (End place) = place
 
+-- the line of a refusal
+abbrev pub refusal-line : Refusal → List ℕ
+refusal-line r = line 0 (refusal (number-of (r .reason)) (r .place) (fault-of (r .reason)))
+
 -- the bytes of its line
 abbrev pub line-of : {I : Type 0} → (I → Meaning) → Entry I → List ℕ
 line-of meaning e = line (place-of e) (answer-of meaning e)

@@ -1,5 +1,5 @@
 ghost use Rattle.definitions.specs.Listing.{«Writes-line»};
-ghost use Rattle.listing.specs.Entries.{«line-of», told};
+ghost use Rattle.listing.specs.Entries.{«line-of», «refusal-line», told};
 use super::entry::Entry;
 use super::line::put_end;
 use super::line::put_object;
@@ -10,6 +10,20 @@ use reader::source::Source;
 
 // No line is longer.
 pub const LONGEST: usize = 48;
+
+// Writes the line of a refusal to the front of a buffer, as `write_line` does.
+pub fn write_refusal(refusal: &Refusal, buffer: &mut [u8]) -> Result<usize, Refusal>
+    ensures { λ r. ⌜ Writes-line (now (buffer .entry)) (refusal-line (now («refusal» .entry))) (told r) (now (buffer .exit)) ⌝ }
+{
+    if buffer.len() < LONGEST {
+        return Err(Refusal {
+            place: 0,
+            reason: Reason::ShortBuffer,
+        });
+    }
+    let end = put_refusal(buffer, refusal.number(), refusal.place);
+    Ok(end)
+}
 
 // Writes the line of an entry to the front of a buffer, and answers its length; the bytes past it
 // stay. A buffer that is shorter than the longest line is refused, and stays as it was.
@@ -22,10 +36,9 @@ pub fn write_line<I: Source>(entry: &Entry<I>, buffer: &mut [u8]) -> Result<usiz
             reason: Reason::ShortBuffer,
         });
     }
-    let end = match entry {
-        Entry::Object(object) => put_object(buffer, object),
-        Entry::Refused(refusal) => put_refusal(buffer, refusal.number(), refusal.place),
-        Entry::End(place) => put_end(buffer, *place),
-    };
-    Ok(end)
+    match entry {
+        Entry::Object(object) => Ok(put_object(buffer, object)),
+        Entry::Refused(refusal) => write_refusal(refusal, buffer),
+        Entry::End(place) => Ok(put_end(buffer, *place)),
+    }
 }
