@@ -237,6 +237,7 @@ fn finish(m: &Machine) -> Reading
 // Passes the run of regular bytes that the source begins with, and says what it is.
 pub fn read<S: Source>(source: &mut S) -> Reading
     ensures stands { λ _. ⌜ S·Source .meaning (now (source .exit)) ≡ past-class regular (S·Source .meaning (now (source .entry))) ⌝ }
+    ensures lies { λ _. ⌜ S·Source .lies (now (source .exit)) ≡ S·Source .lies (now (source .entry)) ⌝ }
 {
     let mut machine = start();
     while let Some(b) = source.peek() {

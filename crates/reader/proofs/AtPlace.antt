@@ -2,11 +2,12 @@
 use mathlib.Core.Bool.{Bool, true, false, cond}
 use mathlib.Core.List.{List, [], _∷_}
 use mathlib.Core.Path.{_≡_, refl}
-use Prim.Native.Nat.{ℕ, zero, suc, _+_, _≤_, _<_, min}
+use mathlib.Core.Logic.{_⊎_, inl, inr}
+use Prim.Native.Nat.{ℕ, zero, suc, _+_, _-_, _≤_, _<_, min}
 use native.Mathlib.Omega.{arith}
-use borrow.Author.Tests.{le-leb, lt-leb}
+use borrow.Author.Tests.{le-leb, lt-leb, leb-true}
 use lib.Dec.{leb}
-use lib.ListN.{length, take, drop, getD}
+use lib.ListN.{length, take, drop, getD, length-drop}
 use Rattle.std.proofs.shelf.Lists.{drop-more, drop-all}
 use Rattle.definitions.specs.Moves.{stepped}
 use Rattle.definitions.specs.Sources.{clean, limit, if-there, window}
@@ -45,3 +46,11 @@ windows at n bs part h k e = rw (le-leb (length bs) limit h, le-leb (length part
 pub all-of : (at n : ℕ) (bs : List ℕ) → limit < length bs → 0 < n → lent-from 0 bs ≡ window n (lent-from at bs)
 all-of at zero bs h p = absurd (omega arith)
 all-of at (suc n) bs h p = rw (lt-leb (length bs) limit h)
+
+-- no more bytes are to come than the slice has from the place on, and none of one that is too long
+pub left-within : (at : ℕ) (bs : List ℕ) → (length (lent-from at bs .to-come) ≤ length bs - at) × ((length bs ≤ limit) ⊎ (length (lent-from at bs .to-come) ≡ 0))
+left-within at bs = step (leb (length bs) limit) refl
+  where
+    step : (t : Bool) → leb (length bs) limit ≡ t → (length (cond t (drop at bs) []) ≤ length bs - at) × ((length bs ≤ limit) ⊎ (length (cond t (drop at bs) []) ≡ 0))
+    step true e = (simp length-drop (omega arith), inl (leb-true (length bs) limit e))
+    step false e = (omega arith, inr refl)

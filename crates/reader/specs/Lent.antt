@@ -5,9 +5,9 @@ use mathlib.Core.Path.{_≡_, refl}
 use Prim.Native.Nat.{ℕ, _+_, _≤_, min}
 use native.Mathlib.Omega.{arith}
 use borrow.Author.Tests.{leb-true}
-use denote.Ref.{RefT, now, ptr}
+use denote.Ref.{now}
 use lib.Dec.{leb}
-use lib.ListN.{length, take, drop, length-drop}
+use lib.ListN.{length, drop, length-drop}
 use Rattle.definitions.specs.Sources.{Meaning, clean, fault, limit, In-limit}
 use Rattle.reader.specs.declared.lent.Lent.{Lent}
 
@@ -29,17 +29,3 @@ lent-limited s = step (leb (length (now (s .bytes))) limit) refl
     step : (t : Bool) → leb (length (now (s .bytes))) limit ≡ t → min (s .at) limit + length (cond t (drop (s .at) (now (s .bytes))) []) ≤ limit
     step true e = let h : length (now (s .bytes)) ≤ limit = leb-true (length (now (s .bytes))) limit e in simp length-drop (omega arith)
     step false e = omega arith
-
--- so many bytes are there from the place on
-abbrev pub Within : Lent → ℕ → Type 0
-Within s n = (length (now (s .bytes)) ≤ limit) × (s .at + n ≤ length (now (s .bytes)))
-
--- a slice that lies where the bytes to come do: in the same block of memory, at the place
-pub record At-place (whole : Lent) (part : RefT (List ℕ)) : Type 0 where
-  pub block : ptr part .0 ≡ ptr (whole .bytes) .0
-  pub address : ptr part .1 ≡ ptr (whole .bytes) .1 + whole .at
-
--- the part of a slice itself: so many bytes from the place on, where they lie, never a copy
-pub record Part (whole : Lent) (n : ℕ) (part : Lent) : Type 0 where
-  pub bytes : now (part .bytes) ≡ take n (drop (whole .at) (now (whole .bytes)))
-  pub there : At-place whole (part .bytes)

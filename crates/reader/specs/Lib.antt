@@ -1,3 +1,4 @@
+pub mod Addresses
 pub mod Endings
 pub mod Lent
 pub mod Table

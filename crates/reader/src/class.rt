@@ -178,7 +178,8 @@ pub impl ByteClass for BaseDigit as BaseDigitClass {
 
 // Passes the bytes of a class: it stops before the first byte outside, or at the end.
 pub fn pass<S: Source, C: ByteClass>(source: &mut S, class: &C)
-    ensures { λ _. ⌜ S·Source .meaning (now (source .exit)) ≡ past-class (C·ByteClass .member (now (class .entry))) (S·Source .meaning (now (source .entry))) ⌝ }
+    ensures means { λ _. ⌜ S·Source .meaning (now (source .exit)) ≡ past-class (C·ByteClass .member (now (class .entry))) (S·Source .meaning (now (source .entry))) ⌝ }
+    ensures lies { λ _. ⌜ S·Source .lies (now (source .exit)) ≡ S·Source .lies (now (source .entry)) ⌝ }
 {
     while let Some(b) = source.peek() {
         if !class.contains(b) {

@@ -1,8 +1,11 @@
 ghost use mathlib.Core.Path.{_≡_};
-ghost use Prim.Native.Nat.{_+_, _≤_};
+ghost use Prim.Native.Nat.{_<_};
+ghost use lib.ListN.{length};
+ghost use Rattle.std.specs.declared.option.Option.the-variants.{Some};
 ghost use denote.Ref.{ptr};
 ghost use Rattle.definitions.specs.Sources.{lent};
-ghost use Rattle.reader.specs.Lent.{«lent-at», «lent-limited», «At-place», Part, Within};
+ghost use Rattle.reader.specs.Addresses.{further};
+ghost use Rattle.reader.specs.Lent.{«lent-at», «lent-limited»};
 use super::source::Ending;
 use super::source::Fault;
 use super::source::Source;
@@ -23,7 +26,8 @@ pub struct Lent<'a> {
 
 impl<'a> Lent<'a> {
     pub fn new(bytes: &'a [u8]) -> Lent<'a>
-        ensures { λ r. ⌜ lent-at r ≡ lent (now (bytes .entry)) ⌝ }
+        ensures means { λ r. ⌜ lent-at r ≡ lent (now (bytes .entry)) ⌝ }
+        ensures lies { λ r. ⌜ ptr (r .bytes) ≡ ptr (bytes .entry) ⌝ }
     {
         Lent { bytes, at: 0 }
     }
@@ -31,7 +35,7 @@ impl<'a> Lent<'a> {
     // The bytes to come: a part of the caller's slice, at its place.
     pub fn to_come(&self) -> &'a [u8]
         ensures bytes { λ r. ⌜ now r ≡ lent-at (now (self .entry)) .to-come ⌝ }
-        ensures there { λ r. ⌜ (Within (now (self .entry)) 0 → At-place (now (self .entry)) r) ⌝ }
+        ensures lies { λ r. ⌜ (0 < length (now r) → Some (ptr r) ≡ further (now (self .entry) .at) (Some (ptr (now (self .entry) .bytes)))) ⌝ }
     {
         let at = self.at as usize;
         if self.bytes.len() <= LIMIT && at <= self.bytes.len() {
@@ -46,6 +50,8 @@ pub impl<'a> Source for Lent<'a> as LentSource {
     ghost meaning = { lent-at };
 
     ghost limited = { lent-limited };
+
+    ghost lies = { λ s. Some (ptr (s .bytes)) };
 
     fn peek(&self) -> Option<u8> {
         let at = self.at as usize;
@@ -82,8 +88,6 @@ pub impl<'a> Source for Lent<'a> as LentSource {
 
 pub impl<'a> Windowed for Lent<'a> as LentWindowed {
     type Inside = Lent<'a>;
-
-    ghost itself = { λ s n i. Within s n → Part s n i };
 
     fn window(&self, n: u32) -> Lent<'a> {
         let at = self.at as usize;

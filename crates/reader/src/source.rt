@@ -1,7 +1,10 @@
 ghost use mathlib.Core.Path.{_≡_};
-ghost use Prim.Native.Nat.{ℕ};
+ghost use Prim.Native.Nat.{_≤_, _<_};
+ghost use lib.ListN.{length};
+ghost use Rattle.std.specs.declared.option.Option.{Option};
 ghost use Rattle.definitions.specs.Moves.{first, stepped, «ending-told»};
 ghost use Rattle.definitions.specs.Sources.{Meaning, «In-limit», window};
+ghost use Rattle.reader.specs.Addresses.{Address, further};
 ghost use Rattle.reader.specs.Endings.{heard};
 
 // A fault by its layer (1 lent bytes, 2 window, 3 eexec) and its cause. Both are numbers, since a
@@ -27,13 +30,17 @@ pub trait Source: Copy {
     // place plus bytes to come never passes 4,294,967,295
     ghost limited: { (s : Self) → In-limit (meaning s) };
 
+    // where place 0 lies in memory, for a source that holds its bytes there
+    ghost lies: { Self → Option Address };
+
     // The first byte to come, or none.
     fn peek(&self) -> Option<u8>
         ensures { λ r. ⌜ r ≡ first (meaning (now (self .entry)) .to-come) ⌝ };
 
     // Takes the first byte; with none to come nothing changes.
     fn step(&mut self)
-        ensures { λ _. ⌜ meaning (now (self .exit)) ≡ stepped (meaning (now (self .entry))) ⌝ };
+        ensures means { λ _. ⌜ meaning (now (self .exit)) ≡ stepped (meaning (now (self .entry))) ⌝ }
+        ensures lies { λ _. ⌜ lies (now (self .exit)) ≡ lies (now (self .entry)) ⌝ };
 
     fn place(&self) -> u32
         ensures { λ r. ⌜ r ≡ meaning (now (self .entry)) .place ⌝ };
@@ -44,14 +51,11 @@ pub trait Source: Copy {
 }
 
 // A source of which the next n bytes can be handed out as a source of their own: what an object's
-// inside is.
+// inside is. Where this source holds its bytes in memory, they are not copied.
 pub trait Windowed: Source {
     type Inside: Source;
 
-    // that a window is this source's own bytes, where it holds them in memory
-    ghost itself: { Self → ℕ → Self·Inside → Type 0 };
-
     fn window(&self, n: u32) -> Self::Inside
         ensures means { λ r. ⌜ Inside·Source .meaning r ≡ window n (Self·Source .meaning (now (self .entry))) ⌝ }
-        ensures itself { λ r. ⌜ itself (now (self .entry)) n r ⌝ };
+        ensures lies { λ r. ⌜ (0 < n → n ≤ length (Self·Source .meaning (now (self .entry)) .to-come) → Inside·Source .lies r ≡ further (Self·Source .meaning (now (self .entry)) .place) (Self·Source .lies (now (self .entry)))) ⌝ };
 }

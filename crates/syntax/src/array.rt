@@ -1,3 +1,4 @@
+ghost use mathlib.Core.Path.{_≡_};
 ghost use Prim.Native.Nat.{suc};
 ghost use Rattle.definitions.specs.Scan.{items, angle};
 ghost use Rattle.syntax.specs.Skips.{Skipped};
@@ -13,7 +14,8 @@ use reader::source::Source;
 
 // After a < in an array: passes the second < of a mark, or a string.
 fn skip_angle<S: Source>(source: &mut S) -> Result<(), Open>
-    ensures { λ r. ⌜ Skipped angle 1 r (S·Source .meaning (now (source .entry))) (S·Source .meaning (now (source .exit))) ⌝ }
+    ensures skips { λ r. ⌜ Skipped angle 1 r (S·Source .meaning (now (source .entry))) (S·Source .meaning (now (source .exit))) ⌝ }
+    ensures lies { λ _. ⌜ S·Source .lies (now (source .exit)) ≡ S·Source .lies (now (source .entry)) ⌝ }
 {
     match source.peek() {
         Some(b'<') => {
@@ -30,7 +32,8 @@ fn skip_angle<S: Source>(source: &mut S) -> Result<(), Open>
 
 // After the [ of an array: passes its items and the ] that closes it.
 pub fn skip_array<S: Source>(source: &mut S) -> Result<(), Open>
-    ensures { λ r. ⌜ Skipped (λ d. items (suc d)) 1 r (S·Source .meaning (now (source .entry))) (S·Source .meaning (now (source .exit))) ⌝ }
+    ensures skips { λ r. ⌜ Skipped (λ d. items (suc d)) 1 r (S·Source .meaning (now (source .entry))) (S·Source .meaning (now (source .exit))) ⌝ }
+    ensures lies { λ _. ⌜ S·Source .lies (now (source .exit)) ≡ S·Source .lies (now (source .entry)) ⌝ }
 {
     let mut depth: u32 = 0;
     'array: loop {

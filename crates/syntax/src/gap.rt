@@ -1,3 +1,4 @@
+ghost use mathlib.Core.Path.{_≡_};
 ghost use Rattle.definitions.specs.PlainReader.{«Gap-passed»};
 use reader::class::Blank;
 use reader::class::BlankClass;
@@ -9,7 +10,8 @@ use reader::source::Source;
 
 // Passes the gap: the longest row of blanks, comments, and marks << and >>.
 pub fn pass_gap<S: Source>(source: &mut S)
-    ensures { λ _. ⌜ Gap-passed (S·Source .meaning (now (source .entry))) (S·Source .meaning (now (source .exit))) ⌝ }
+    ensures gap { λ _. ⌜ Gap-passed (S·Source .meaning (now (source .entry))) (S·Source .meaning (now (source .exit))) ⌝ }
+    ensures lies { λ _. ⌜ S·Source .lies (now (source .exit)) ≡ S·Source .lies (now (source .entry)) ⌝ }
 {
     'gap: loop {
         let Some(b) = source.peek() else {

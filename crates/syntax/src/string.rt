@@ -1,3 +1,4 @@
+ghost use mathlib.Core.Path.{_≡_};
 ghost use Rattle.definitions.specs.Scan.{text, hex, ascii85, angle};
 ghost use Rattle.syntax.specs.Skips.{Skipped};
 use super::open::Open;
@@ -9,7 +10,8 @@ use reader::source::Source;
 
 // After the ( of a literal string: passes its text and the ) that closes it.
 pub fn skip_literal<S: Source>(source: &mut S) -> Result<(), Open>
-    ensures { λ r. ⌜ Skipped (λ d. text d 0) 1 r (S·Source .meaning (now (source .entry))) (S·Source .meaning (now (source .exit))) ⌝ }
+    ensures skips { λ r. ⌜ Skipped (λ d. text d 0) 1 r (S·Source .meaning (now (source .entry))) (S·Source .meaning (now (source .exit))) ⌝ }
+    ensures lies { λ _. ⌜ S·Source .lies (now (source .exit)) ≡ S·Source .lies (now (source .entry)) ⌝ }
 {
     let mut depth: u32 = 0;
     while let Some(b) = source.peek() {
@@ -27,7 +29,8 @@ pub fn skip_literal<S: Source>(source: &mut S) -> Result<(), Open>
 
 // After the < of a hex string: passes its digits, unchecked, and the > that closes it.
 pub fn skip_hex<S: Source>(source: &mut S) -> Result<(), Open>
-    ensures { λ r. ⌜ Skipped hex 1 r (S·Source .meaning (now (source .entry))) (S·Source .meaning (now (source .exit))) ⌝ }
+    ensures skips { λ r. ⌜ Skipped hex 1 r (S·Source .meaning (now (source .entry))) (S·Source .meaning (now (source .exit))) ⌝ }
+    ensures lies { λ _. ⌜ S·Source .lies (now (source .exit)) ≡ S·Source .lies (now (source .entry)) ⌝ }
 {
     pass(source, &Except { byte: b'>' });
     if source.peek().is_none() {
@@ -39,7 +42,8 @@ pub fn skip_hex<S: Source>(source: &mut S) -> Result<(), Open>
 
 // After the <~ of an ASCII85 string: passes its digits, unchecked, and the ~> that closes it.
 pub fn skip_ascii85<S: Source>(source: &mut S) -> Result<(), Open>
-    ensures { λ r. ⌜ Skipped ascii85 2 r (S·Source .meaning (now (source .entry))) (S·Source .meaning (now (source .exit))) ⌝ }
+    ensures skips { λ r. ⌜ Skipped ascii85 2 r (S·Source .meaning (now (source .entry))) (S·Source .meaning (now (source .exit))) ⌝ }
+    ensures lies { λ _. ⌜ S·Source .lies (now (source .exit)) ≡ S·Source .lies (now (source .entry)) ⌝ }
 {
     pass(source, &Except { byte: b'~' });
     source.step();

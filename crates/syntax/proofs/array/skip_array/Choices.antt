@@ -12,6 +12,7 @@ Inv-array g l =
     ((d : ℕ) → items (suc (l .depth + d)) (g .S·Source .meaning (l .source) .to-come) ≡ items (suc d) (g .S·Source .meaning (l .entry .source) .to-come))
     × Moved (g .S·Source .meaning (l .entry .source)) (g .S·Source .meaning (l .source))
     × (l .depth + length (g .S·Source .meaning (l .source) .to-come) ≤ limit)
+    × (g .S·Source .lies (l .source) ≡ g .S·Source .lies (l .entry .source))
 
 abbrev pub μ-array : given.MeasureT-array
 μ-array g l = length (g .S·Source .meaning (l .source) .to-come)

@@ -9,6 +9,7 @@ abbrev pub Inv-gap : given.InvT-gap
 Inv-gap g l =
     (after-gap (g .S·Source .meaning (l .source) .to-come) ≡ after-gap (g .S·Source .meaning (l .entry .source) .to-come))
     × Moved (g .S·Source .meaning (l .entry .source)) (g .S·Source .meaning (l .source))
+    × (g .S·Source .lies (l .source) ≡ g .S·Source .lies (l .entry .source))
 
 abbrev pub μ-gap : given.MeasureT-gap
 μ-gap g l = length (g .S·Source .meaning (l .source) .to-come)

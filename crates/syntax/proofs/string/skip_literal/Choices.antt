@@ -12,6 +12,7 @@ Inv-loop-b g l =
     ((d : ℕ) → text d (l .depth) (g .S·Source .meaning (l .source) .to-come) ≡ text d 0 (g .S·Source .meaning (l .entry .source) .to-come))
     × Moved (g .S·Source .meaning (l .entry .source)) (g .S·Source .meaning (l .source))
     × (l .depth + length (g .S·Source .meaning (l .source) .to-come) ≤ limit)
+    × (g .S·Source .lies (l .source) ≡ g .S·Source .lies (l .entry .source))
 
 abbrev pub μ-loop-b : given.MeasureT-loop-b
 μ-loop-b g l = length (g .S·Source .meaning (l .source) .to-come)
