@@ -10,4 +10,5 @@ loop-b-again g c = (
       ∙ class-step regular (c .in-Some .b) (g .S·Source .meaning (c .loop-b .source)) (c .in-Some .ensures tt) (sym (c .if-not-contains .ensures tt))
       ∙ c .loop-b .inv .0,
   c .next-machine .ensures,
+  c .step .ensures .lies ∙ c .loop-b .inv .2,
 )
