@@ -6,7 +6,7 @@ ghost use Rattle.definitions.specs.Listing.{decimal, «signed-decimal»};
 ghost use Rattle.listing.specs.Appending.{Appends};
 
 // More text at a place of the buffer; the place after it.
-pub fn put(buffer: &mut [u8], at: usize, text: &[u8]) -> usize
+pub(crate) fn put(buffer: &mut [u8], at: usize, text: &[u8]) -> usize
     requires { ⌜ at + length (now text) ≤ length (now buffer) ⌝ }
     ensures { λ r. ⌜ Appends (now (text .entry)) (now (buffer .entry)) at (now (buffer .exit)) r ⌝ }
 {
@@ -16,7 +16,7 @@ pub fn put(buffer: &mut [u8], at: usize, text: &[u8]) -> usize
 }
 
 // The decimal digits of a number, at the end of an array.
-pub struct Digits {
+struct Digits {
     bytes: [u8; 20],
     from: usize,
 }
@@ -40,7 +40,7 @@ fn digits_of(n: u64) -> Digits
 }
 
 // A number in decimal digits; the place after them.
-pub fn put_decimal(buffer: &mut [u8], at: usize, n: u64) -> usize
+pub(crate) fn put_decimal(buffer: &mut [u8], at: usize, n: u64) -> usize
     requires { ⌜ at + length (decimal n) ≤ length (now buffer) ⌝ }
     ensures { λ r. ⌜ Appends (decimal n) (now (buffer .entry)) at (now (buffer .exit)) r ⌝ }
 {
@@ -49,7 +49,7 @@ pub fn put_decimal(buffer: &mut [u8], at: usize, n: u64) -> usize
 }
 
 // The same with a minus in front of what is below 0.
-pub fn put_signed(buffer: &mut [u8], at: usize, n: i64) -> usize
+pub(crate) fn put_signed(buffer: &mut [u8], at: usize, n: i64) -> usize
     requires { ⌜ at + length (signed-decimal n) ≤ length (now buffer) ⌝ }
     ensures { λ r. ⌜ Appends (signed-decimal n) (now (buffer .entry)) at (now (buffer .exit)) r ⌝ }
 {

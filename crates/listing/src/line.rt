@@ -87,7 +87,7 @@ fn put_head(buffer: &mut [u8], kind: u8, start: u32, end: u32) -> usize
 }
 
 // Kind, start, end and value, parted by commas.
-pub fn put_object<I: Source>(buffer: &mut [u8], taken: &Object<I>) -> usize
+pub(crate) fn put_object<I: Source>(buffer: &mut [u8], taken: &Object<I>) -> usize
     requires { ⌜ 48 ≤ length (now buffer) ⌝ }
     ensures { λ r. ⌜ Appends (line 0 (object (as-handed (I·Source .meaning) (now (taken .entry))))) (now (buffer .entry)) 0 (now (buffer .exit)) r ⌝ }
 {
@@ -98,7 +98,7 @@ pub fn put_object<I: Source>(buffer: &mut [u8], taken: &Object<I>) -> usize
 }
 
 // The word refused, the number and the place.
-pub fn put_refusal(buffer: &mut [u8], number: u8, place: u32) -> usize
+pub(crate) fn put_refusal(buffer: &mut [u8], number: u8, place: u32) -> usize
     requires { ⌜ length (line 0 (refusal number place clean)) ≤ length (now buffer) ⌝ }
     ensures { λ r. ⌜ Appends (line 0 (refusal number place clean)) (now (buffer .entry)) 0 (now (buffer .exit)) r ⌝ }
 {
@@ -109,7 +109,7 @@ pub fn put_refusal(buffer: &mut [u8], number: u8, place: u32) -> usize
 }
 
 // The word end and the place.
-pub fn put_end(buffer: &mut [u8], place: u32) -> usize
+pub(crate) fn put_end(buffer: &mut [u8], place: u32) -> usize
     requires { ⌜ length (line place (yes-no true)) ≤ length (now buffer) ⌝ }
     ensures { λ r. ⌜ Appends (line place (yes-no true)) (now (buffer .entry)) 0 (now (buffer .exit)) r ⌝ }
 {
