@@ -1,1 +1,3 @@
 pub mod Looking
+pub mod Taking
+pub mod Bracketed
