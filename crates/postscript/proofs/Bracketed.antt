@@ -113,3 +113,13 @@ opened-by b (x ∷ bs) e = let q : x ≡ b = cc in ap (λ y. y ∷ bs) q
 
 pub stepped-behind : (b : ℕ) (m : Meaning) → first (m .to-come) ≡ Some b → stepped m ≡ behind (b ∷ []) (rest (m .to-come)) m
 stepped-behind b m e = let n : pace (m .to-come) ≡ 1 = ap pace (opened-by b (m .to-come) e) in ap (λ k. record { to-come = rest (m .to-come); place = m .place + k; ending = m .ending }) n
+
+pub opened-twice : (b c : ℕ) (bs : List ℕ) → first bs ≡ Some b → first (rest bs) ≡ Some c → bs ≡ (b ∷ c ∷ []) ++ rest (rest bs)
+opened-twice b c bs e f = opened-by b bs e ∙ ap (λ l. b ∷ l) (opened-by c (rest bs) f)
+
+pub stepped-twice : (b c : ℕ) (m : Meaning) → first (m .to-come) ≡ Some b → first (rest (m .to-come)) ≡ Some c → stepped (stepped m) ≡ behind (b ∷ c ∷ []) (rest (rest (m .to-come))) m
+stepped-twice b c m e f =
+    let n : pace (m .to-come) ≡ 1 = ap pace (opened-by b (m .to-come) e) in
+    let k : pace (rest (m .to-come)) ≡ 1 = ap pace (opened-by c (rest (m .to-come)) f) in
+    let p : m .place + pace (m .to-come) + pace (rest (m .to-come)) ≡ m .place + 2 = omega arith in
+    ap (λ i. record { to-come = rest (rest (m .to-come)); place = i; ending = m .ending }) p

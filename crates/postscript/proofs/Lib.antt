@@ -1,3 +1,4 @@
 pub mod Looking
 pub mod Taking
 pub mod Bracketed
+pub mod Runs

@@ -1,5 +1,5 @@
 -- What reading one object comes to, against what stands after the gap. Assumes nothing.
-use mathlib.Core.List.{List, []}
+use mathlib.Core.List.{List, [], _∷_}
 use mathlib.Core.Path.{_≡_}
 use Prim.Native.Nat.{ℕ, _+_, _-_, _≤_, _<_}
 use lib.ListN.{length}
@@ -67,6 +67,11 @@ Closed meaning lies (Ok u) start from now home closer (Ok p) = Between meaning l
 Closed meaning lies (Ok u) start from now home closer (Err r) = ⊥
 Closed meaning lies (Err o) start from now home closer (Ok p) = ⊥
 Closed meaning lies (Err o) start from now home closer (Err r) = (r .place ≡ start) × Open-reason o now (r .reason)
+
+-- a run ends before a byte, or at a clean end
+abbrev pub Run-ends : List ℕ → Ending → Type 0
+Run-ends [] e = e ≡ clean
+Run-ends (b ∷ bs) e = Unit {0}
 
 -- one reading, from an object's first byte on: what stands there came out, and its inside is a source of its own
 pub record Read {I : Type 0} (meaning : I → Meaning) (lies : I → Option Address) (before now : Meaning) (home : Option Address) (r : Result (Object I) Refusal) : Type 0 where

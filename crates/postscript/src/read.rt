@@ -2,9 +2,12 @@ ghost use mathlib.Core.List.{[]};
 ghost use mathlib.Core.Path.{_≡_};
 ghost use Prim.Native.Nat.{_+_, _≤_};
 ghost use Rattle.std.specs.declared.option.Option.the-variants.{Some};
-ghost use Rattle.definitions.specs.Moves.{first};
+ghost use Rattle.std.specs.Results.{Cases};
+ghost use Rattle.definitions.specs.Grammar.{«Hex-head»};
+ghost use Rattle.definitions.specs.Moves.{first, rest};
+ghost use Rattle.definitions.specs.Sources.{fault};
 ghost use Rattle.syntax.specs.Skips.{Closes};
-ghost use Rattle.postscript.specs.Reading.{«At-end», «Open-reason», Between, Closed, Read};
+ghost use Rattle.postscript.specs.Reading.{«At-end», «Open-reason», Between, Closed, Read, «Run-ends»};
 use super::array::Array;
 use super::error::Reason;
 use super::error::Refusal;
@@ -20,6 +23,7 @@ use reader::class::Regular;
 use reader::class::RegularClass;
 use reader::class::pass;
 use reader::source::Ending;
+use reader::source::Fault;
 use reader::source::Source;
 use reader::source::Windowed;
 use syntax::array::skip_array;
@@ -96,5 +100,82 @@ fn literal_string<S: Windowed>(source: &mut S) -> Result<Object<S::Inside>, Refu
     Ok(Object::String(String {
         part,
         form: Form::Literal,
+    }))
+}
+
+fn hex_string<S: Windowed>(source: &mut S) -> Result<Object<S::Inside>, Refusal>
+    requires { ⌜ first (S·Source .meaning (now source) .to-come) ≡ Some 60 ⌝ ∗ ⌜ Hex-head (rest (S·Source .meaning (now source) .to-come)) ⌝ }
+    ensures reads { λ r. ⌜ Read (Inside·Source .meaning) (Inside·Source .lies) (S·Source .meaning (now (source .entry))) (S·Source .meaning (now (source .exit))) (S·Source .lies (now (source .entry))) r ⌝ }
+    ensures lies { λ _. ⌜ S·Source .lies (now (source .exit)) ≡ S·Source .lies (now (source .entry)) ⌝ }
+{
+    let start = source.place();
+    source.step();
+    let from = *source;
+    let skipped = skip_hex(source);
+    let part = closed(start, &from, source, skipped, 1)?;
+    Ok(Object::String(String {
+        part,
+        form: Form::Hex,
+    }))
+}
+
+fn ascii85_string<S: Windowed>(source: &mut S) -> Result<Object<S::Inside>, Refusal>
+    requires { ⌜ first (S·Source .meaning (now source) .to-come) ≡ Some 60 ⌝ ∗ ⌜ first (rest (S·Source .meaning (now source) .to-come)) ≡ Some 126 ⌝ }
+    ensures reads { λ r. ⌜ Read (Inside·Source .meaning) (Inside·Source .lies) (S·Source .meaning (now (source .entry))) (S·Source .meaning (now (source .exit))) (S·Source .lies (now (source .entry))) r ⌝ }
+    ensures lies { λ _. ⌜ S·Source .lies (now (source .exit)) ≡ S·Source .lies (now (source .entry)) ⌝ }
+{
+    let start = source.place();
+    source.step();
+    source.step();
+    let from = *source;
+    let skipped = skip_ascii85(source);
+    let part = closed(start, &from, source, skipped, 2)?;
+    Ok(Object::String(String {
+        part,
+        form: Form::Ascii85,
+    }))
+}
+
+fn array<S: Windowed>(source: &mut S) -> Result<Object<S::Inside>, Refusal>
+    requires { ⌜ first (S·Source .meaning (now source) .to-come) ≡ Some 91 ⌝ }
+    ensures reads { λ r. ⌜ Read (Inside·Source .meaning) (Inside·Source .lies) (S·Source .meaning (now (source .entry))) (S·Source .meaning (now (source .exit))) (S·Source .lies (now (source .entry))) r ⌝ }
+    ensures lies { λ _. ⌜ S·Source .lies (now (source .exit)) ≡ S·Source .lies (now (source .entry)) ⌝ }
+{
+    let start = source.place();
+    source.step();
+    let from = *source;
+    let skipped = skip_array(source);
+    let part = closed(start, &from, source, skipped, 1)?;
+    Ok(Object::Array(Array { part }))
+}
+
+// A run needs a byte or a clean end after it: the fault at which it ended, if it did.
+fn run_end<S: Source>(source: &S) -> Result<(), Fault>
+    ensures { λ r. ⌜ Cases r (λ _. Run-ends (S·Source .meaning (now (source .entry)) .to-come) (S·Source .meaning (now (source .entry)) .ending)) (λ f. (S·Source .meaning (now (source .entry)) .to-come ≡ []) × (S·Source .meaning (now (source .entry)) .ending ≡ fault (f .layer) (f .cause))) ⌝ }
+{
+    match source.ending() {
+        Some(Ending::Fault(f)) => Err(f),
+        _ => Ok(()),
+    }
+}
+
+fn literal_name<S: Windowed>(source: &mut S) -> Result<Object<S::Inside>, Refusal>
+    requires { ⌜ first (S·Source .meaning (now source) .to-come) ≡ Some 47 ⌝ }
+    ensures reads { λ r. ⌜ Read (Inside·Source .meaning) (Inside·Source .lies) (S·Source .meaning (now (source .entry))) (S·Source .meaning (now (source .exit))) (S·Source .lies (now (source .entry))) r ⌝ }
+    ensures lies { λ _. ⌜ S·Source .lies (now (source .exit)) ≡ S·Source .lies (now (source .entry)) ⌝ }
+{
+    let start = source.place();
+    source.step();
+    let from = *source;
+    pass(source, &Regular);
+    if let Err(f) = run_end(source) {
+        return Err(Refusal {
+            place: start,
+            reason: Reason::Fault(f),
+        });
+    }
+    Ok(Object::Name(Name {
+        part: between(start, &from, source, 0),
+        literal: true,
     }))
 }
