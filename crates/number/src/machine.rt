@@ -1,11 +1,17 @@
+ghost use mathlib.Core.Bool.{true, false};
 ghost use mathlib.Core.Path.{_≡_};
-ghost use lib.Dec.{T};
+ghost use lib.IntN.{pos, negℤ, _-ℤ_};
+ghost use lib.Signed.{_≤ℤ_};
 ghost use Prim.Native.Nat.{_+_, _*_, _^_, _≤_, _<_, min};
-ghost use Rattle.definitions.specs.Bytes.{regular};
+ghost use Rattle.std.specs.Options.{Cases};
+ghost use Rattle.definitions.specs.Bytes.{regular, front};
 ghost use Rattle.definitions.specs.Moves.{«past-class»};
-ghost use Rattle.number.specs.Machine.{Sound};
+ghost use Rattle.definitions.specs.Numbers.{signed, settled, Reads};
+ghost use Rattle.definitions.specs.Readings.{«fits?», «radix-reading», «real-reading»};
+ghost use Rattle.number.specs.Machine.{minus, dead, base, «whole-of», «placed-of», «next-of», «finish-of», «In-bounds», Sound};
+ghost use Rattle.number.specs.Runs.{«as-reading»};
 use super::decimal::Decimal;
-use super::state::Machine;
+use super::state::Mantissa;
 use super::state::Sign;
 use super::state::State;
 use reader::class::ByteClass;
@@ -43,140 +49,118 @@ fn with_digit(n: u64, base: u8, digit: u8, most: u64) -> u64
     if longer < most { longer } else { most }
 }
 
-fn start() -> Machine
-    ensures { λ r. ⌜ Sound r ⌝ }
+fn is_minus(sign: Sign) -> bool
+    ensures { λ r. ⌜ r ≡ minus sign ⌝ }
 {
-    Machine {
-        state: State::Start,
-        sign: Sign::None,
-        c: 0,
-        places: 0,
-        exponent_sign: Sign::None,
-        exponent: 0,
-        base: 0,
-        bits: 0,
-    }
-}
-
-// The digits read are a base: without a sign, and from 2 to 36.
-fn is_base(m: &Machine) -> bool
-    ensures { λ r. ⌜ (T r → now (m .entry) .c ≤ 36) ⌝ }
-{
-    match m.sign {
-        Sign::None => m.c >= 2 && m.c <= 36,
-        _ => false,
-    }
-}
-
-// One byte more of the run.
-fn next(m: Machine, b: u8) -> Machine
-    requires { ⌜ Sound m ⌝ }
-    ensures { λ r. ⌜ Sound r ⌝ }
-{
-    match (m.state, b) {
-        (State::Start, b'+') => Machine {
-            state: State::Sign,
-            sign: Sign::Plus,
-            ..m
-        },
-        (State::Start, b'-') => Machine {
-            state: State::Sign,
-            sign: Sign::Minus,
-            ..m
-        },
-        (State::Start | State::Sign | State::Whole, b'0'..=b'9') => {
-            let c = with_digit(m.c, 10, b - b'0', MOST_DIGITS);
-            Machine {
-                state: State::Whole,
-                c,
-                ..m
-            }
-        }
-        (State::Start | State::Sign, b'.') => Machine {
-            state: State::Dot,
-            ..m
-        },
-        (State::Whole, b'.') => Machine {
-            state: State::Fraction,
-            ..m
-        },
-        (State::Dot | State::Fraction, b'0'..=b'9') => {
-            let c = with_digit(m.c, 10, b - b'0', MOST_DIGITS);
-            let places = with_digit(m.places, 1, 1, MOST_EXPONENT);
-            Machine {
-                state: State::Fraction,
-                c,
-                places,
-                ..m
-            }
-        }
-        (State::Whole | State::Fraction, b'e' | b'E') => Machine {
-            state: State::Exponent,
-            ..m
-        },
-        (State::Exponent, b'+') => Machine {
-            state: State::ExponentSign,
-            exponent_sign: Sign::Plus,
-            ..m
-        },
-        (State::Exponent, b'-') => Machine {
-            state: State::ExponentSign,
-            exponent_sign: Sign::Minus,
-            ..m
-        },
-        (State::Exponent | State::ExponentSign | State::ExponentDigits, b'0'..=b'9') => {
-            let exponent = with_digit(m.exponent, 10, b - b'0', MOST_EXPONENT);
-            Machine {
-                state: State::ExponentDigits,
-                exponent,
-                ..m
-            }
-        }
-        (State::Whole, b'#') if is_base(&m) => Machine {
-            state: State::Radix,
-            base: m.c as u8,
-            ..m
-        },
-        (State::Radix | State::RadixDigits, _) if digit_worth(b) < m.base => {
-            let bits = with_digit(m.bits, m.base, digit_worth(b), MOST_BITS);
-            Machine {
-                state: State::RadixDigits,
-                bits,
-                ..m
-            }
-        }
-        _ => Machine {
-            state: State::Dead,
-            ..m
-        },
-    }
-}
-
-fn is_dead(state: State) -> bool {
-    match state {
-        State::Dead => true,
-        _ => false,
-    }
-}
-
-fn is_minus(sign: Sign) -> bool {
     match sign {
         Sign::Minus => true,
         _ => false,
     }
 }
 
+// The digits read are a base: without a sign, and from 2 to 36.
+fn is_base(sign: Sign, c: u64) -> bool
+    ensures { λ r. ⌜ r ≡ base sign c ⌝ }
+{
+    match sign {
+        Sign::None => c >= 2 && c <= 36,
+        _ => false,
+    }
+}
+
+// Digits without a dot.
+fn whole(sign: Sign, c: u64) -> Mantissa
+    ensures { λ r. ⌜ r ≡ whole-of sign c ⌝ }
+{
+    Mantissa { sign, c, places: 0 }
+}
+
+// One digit more after the dot.
+fn with_place(m: Mantissa, digit: u8) -> Mantissa
+    requires { ⌜ In-bounds 1 m ⌝ }
+    ensures { λ r. ⌜ r ≡ placed-of m digit ⌝ }
+{
+    let c = with_digit(m.c, 10, digit, MOST_DIGITS);
+    Mantissa {
+        sign: m.sign,
+        c,
+        places: m.places + 1,
+    }
+}
+
+// One byte more of the run.
+fn next(state: State, b: u8) -> State
+    requires { ⌜ Sound 1 state ⌝ }
+    ensures { λ r. ⌜ r ≡ next-of state b ⌝ }
+{
+    match (state, b) {
+        (State::Start, b'+') => State::Signed(Sign::Plus),
+        (State::Start, b'-') => State::Signed(Sign::Minus),
+        (State::Start, b'0'..=b'9') => State::Whole(Sign::None, (b - b'0') as u64),
+        (State::Start, b'.') => State::Dot(Sign::None),
+        (State::Signed(sign), b'0'..=b'9') => State::Whole(sign, (b - b'0') as u64),
+        (State::Signed(sign), b'.') => State::Dot(sign),
+        (State::Whole(sign, c), b'0'..=b'9') => State::Whole(
+            sign,
+            with_digit(c, 10, b - b'0', MOST_DIGITS),
+        ),
+        (State::Whole(sign, c), b'.') => State::Fraction(whole(sign, c)),
+        (State::Whole(sign, c), b'e' | b'E') => State::Exponent(whole(sign, c)),
+        (State::Whole(sign, c), b'#') if is_base(sign, c) => State::Radix(c as u8),
+        (State::Dot(sign), b'0'..=b'9') => State::Fraction(with_place(whole(sign, 0), b - b'0')),
+        (State::Fraction(m), b'0'..=b'9') => State::Fraction(with_place(m, b - b'0')),
+        (State::Fraction(m), b'e' | b'E') => State::Exponent(m),
+        (State::Exponent(m), b'+') => State::ExponentSign(m, Sign::Plus),
+        (State::Exponent(m), b'-') => State::ExponentSign(m, Sign::Minus),
+        (State::Exponent(m), b'0'..=b'9') => State::ExponentDigits(
+            m,
+            Sign::None,
+            (b - b'0') as u64,
+        ),
+        (State::ExponentSign(m, sign), b'0'..=b'9') => State::ExponentDigits(
+            m,
+            sign,
+            (b - b'0') as u64,
+        ),
+        (State::ExponentDigits(m, sign, n), b'0'..=b'9') => State::ExponentDigits(
+            m,
+            sign,
+            with_digit(n, 10, b - b'0', MOST_EXPONENT),
+        ),
+        (State::Radix(base), _) if digit_worth(b) < base => State::RadixDigits(
+            base,
+            digit_worth(b) as u64,
+        ),
+        (State::RadixDigits(base, n), _) if digit_worth(b) < base => State::RadixDigits(
+            base,
+            with_digit(n, base, digit_worth(b), MOST_BITS),
+        ),
+        _ => State::Dead,
+    }
+}
+
+fn is_dead(state: State) -> bool
+    ensures { λ r. ⌜ r ≡ dead state ⌝ }
+{
+    match state {
+        State::Dead => true,
+        _ => false,
+    }
+}
+
 // The digits as an integer of 32 bits, if they are one.
-fn integer(m: &Machine) -> Option<i32> {
-    if is_minus(m.sign) {
-        if m.c <= 2_147_483_648 {
-            Some((-(m.c as i64)) as i32)
+fn integer(sign: Sign, c: u64) -> Option<i32>
+    ensures { λ r. ⌜ Cases r (fits? (minus sign) c ≡ false) (λ n. (fits? (minus sign) c ≡ true) × (n ≡ signed (minus sign) c)) ⌝ }
+{
+    if is_minus(sign) {
+        if c <= 2_147_483_648 {
+            Some((-(c as i64)) as i32)
         } else {
             None
         }
     } else {
-        if m.c <= 2_147_483_647 {
-            Some(m.c as i32)
+        if c <= 2_147_483_647 {
+            Some(c as i32)
         } else {
             None
         }
@@ -184,32 +168,48 @@ fn integer(m: &Machine) -> Option<i32> {
 }
 
 // The integer of the same 32 bits in two's complement.
-fn radix(m: &Machine) -> Reading {
-    if m.bits < 2_147_483_648 {
-        Reading::Integer(m.bits as i32)
-    } else if m.bits < MOST_BITS {
-        Reading::Integer((m.bits as i64 - MOST_BITS as i64) as i32)
+fn radix(bits: u64) -> Reading
+    ensures { λ r. ⌜ as-reading r ≡ radix-reading bits ⌝ }
+{
+    if bits < 2_147_483_648 {
+        Reading::Integer(bits as i32)
+    } else if bits < MOST_BITS {
+        Reading::Integer((bits as i64 - MOST_BITS as i64) as i32)
     } else {
         Reading::PastLimits
     }
 }
 
-// The exponent less the count of digits after the dot.
-fn scale(m: &Machine) -> i64
-    requires { ⌜ Sound (now m) ⌝ }
+// What an exponent's digits are worth.
+fn exponent(sign: Sign, n: u64) -> i64
+    requires { ⌜ n ≤ 10 ^ 10 ⌝ }
+    ensures { λ r. ⌜ r ≡ signed (minus sign) n ⌝ }
 {
-    let places = m.places as i64;
-    if is_minus(m.exponent_sign) {
-        -(m.exponent as i64) - places
+    if is_minus(sign) {
+        -(n as i64)
     } else {
-        m.exponent as i64 - places
+        n as i64
     }
 }
 
-fn real(m: &Machine) -> Reading
-    requires { ⌜ Sound (now m) ⌝ }
+// k: the exponent less the count of digits after the dot, and 0 where c is.
+fn scale(m: Mantissa, exponent: i64) -> i64
+    requires { ⌜ (negℤ (pos (10 ^ 10)) ≤ℤ exponent) × (exponent ≤ℤ pos (10 ^ 10)) ⌝ }
+    ensures { λ r. ⌜ r ≡ settled (m .c) (exponent -ℤ pos (m .places)) ⌝ }
 {
-    let k = if m.c == 0 { 0 } else { scale(m) };
+    if m.c == 0 {
+        0
+    } else {
+        exponent - m.places as i64
+    }
+}
+
+// A real with this exponent, if it is within its limits.
+fn real(m: Mantissa, exponent: i64) -> Reading
+    requires { ⌜ (negℤ (pos (10 ^ 10)) ≤ℤ exponent) × (exponent ≤ℤ pos (10 ^ 10)) ⌝ }
+    ensures { λ r. ⌜ as-reading r ≡ real-reading (minus (m .sign)) (m .c) (exponent -ℤ pos (m .places)) ⌝ }
+{
+    let k = scale(m, exponent);
     if k < -99 || k > 99 {
         return Reading::PastLimits;
     }
@@ -220,16 +220,18 @@ fn real(m: &Machine) -> Reading
 }
 
 // What the run is, once all of it was read.
-fn finish(m: &Machine) -> Reading
-    requires { ⌜ Sound (now m) ⌝ }
+fn finish(state: State) -> Reading
+    requires { ⌜ Sound 0 state ⌝ }
+    ensures { λ r. ⌜ as-reading r ≡ finish-of state ⌝ }
 {
-    match m.state {
-        State::Whole => match integer(m) {
+    match state {
+        State::Whole(sign, c) => match integer(sign, c) {
             Some(n) => Reading::Integer(n),
-            None => real(m),
+            None => real(whole(sign, c), 0),
         },
-        State::Fraction | State::ExponentDigits => real(m),
-        State::RadixDigits => radix(m),
+        State::Fraction(m) => real(m, 0),
+        State::ExponentDigits(m, sign, n) => real(m, exponent(sign, n)),
+        State::RadixDigits(_, bits) => radix(bits),
         _ => Reading::Name,
     }
 }
@@ -237,17 +239,18 @@ fn finish(m: &Machine) -> Reading
 // Passes the run of regular bytes that the source begins with, and says what it is.
 pub fn read<S: Source>(source: &mut S) -> Reading
     ensures stands { λ _. ⌜ S·Source .meaning (now (source .exit)) ≡ past-class regular (S·Source .meaning (now (source .entry))) ⌝ }
+    ensures reads { λ r. ⌜ Reads (front regular (S·Source .meaning (now (source .entry)) .to-come)) (as-reading r) ⌝ }
     ensures lies { λ _. ⌜ S·Source .lies (now (source .exit)) ≡ S·Source .lies (now (source .entry)) ⌝ }
 {
-    let mut machine = start();
+    let mut state = State::Start;
     while let Some(b) = source.peek() {
-        if is_dead(machine.state) || !Regular.contains(b) {
+        if is_dead(state) || !Regular.contains(b) {
             break;
         }
-        machine = next(machine, b);
+        state = next(state, b);
         source.step();
     }
     // what is left of a run that is no number
     pass(source, &Regular);
-    finish(&machine)
+    finish(state)
 }

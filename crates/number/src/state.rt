@@ -1,3 +1,4 @@
+// The sign of a number, or of its exponent.
 #[derive(Clone, Copy)]
 pub enum Sign {
     None,
@@ -5,39 +6,34 @@ pub enum Sign {
     Minus,
 }
 
-// What was read of a run.
+// What stands before an exponent.
+#[derive(Clone, Copy)]
+pub struct Mantissa {
+    pub sign: Sign,
+    // all digits as one number
+    pub c: u64,
+    // how many of them stand after the dot
+    pub places: u32,
+}
+
+// The number machine between two bytes: what was read of a run, and what its digits came to.
 #[derive(Clone, Copy)]
 pub enum State {
     Start,
-    Sign,
+    Signed(Sign),
     // one or more digits
-    Whole,
+    Whole(Sign, u64),
     // a dot, and no digit yet
-    Dot,
+    Dot(Sign),
     // a dot, and digits before or after it
-    Fraction,
-    Exponent,
-    ExponentSign,
-    ExponentDigits,
+    Fraction(Mantissa),
+    // an e
+    Exponent(Mantissa),
+    ExponentSign(Mantissa, Sign),
+    ExponentDigits(Mantissa, Sign, u64),
     // a base and #
-    Radix,
-    RadixDigits,
+    Radix(u8),
+    RadixDigits(u8, u64),
     // no number begins so
     Dead,
-}
-
-// The number machine between two bytes: its state, and what the digits came to.
-#[derive(Clone, Copy)]
-pub struct Machine {
-    pub state: State,
-    pub sign: Sign,
-    // the digits before the exponent as one number
-    pub c: u64,
-    // how many of them stand after the dot
-    pub places: u64,
-    pub exponent_sign: Sign,
-    pub exponent: u64,
-    pub base: u8,
-    // the value of a radix number's digits
-    pub bits: u64,
 }
