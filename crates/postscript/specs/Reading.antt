@@ -1,14 +1,18 @@
 -- What reading one object comes to, against what stands after the gap. Assumes nothing.
+use mathlib.Core.Bool.{not, _||_}
 use mathlib.Core.List.{List, [], _∷_}
 use mathlib.Core.Path.{_≡_}
 use Prim.Native.Nat.{ℕ, _+_, _-_, _≤_, _<_}
+use lib.Dec.{T, eqb}
 use lib.ListN.{length}
 use Rattle.std.specs.declared.option.Option.{Option}
 use Rattle.std.specs.declared.result.Result.{Result}
 use Rattle.std.specs.declared.result.Result.the-variants.{Ok, Err}
+use Rattle.definitions.specs.Bytes.{digit, regular, dot-sign}
 use Rattle.definitions.specs.Grammar.{Shown, Outcome, an-object, a-refusal}
 use Rattle.definitions.specs.Outcomes.{outcome}
 use Rattle.definitions.specs.PlainReader.{Answer, object, refusal, handed, carried, after}
+use Rattle.definitions.specs.Readings.{sign}
 use Rattle.definitions.specs.SharedRun.{opener-length}
 use Rattle.definitions.specs.Sources.{Meaning, Ending, clean, fault, window}
 use Rattle.reader.specs.Addresses.{Address, further}
@@ -72,6 +76,16 @@ Closed meaning lies (Err o) start from now home closer (Err r) = (r .place ≡ s
 abbrev pub Run-ends : List ℕ → Ending → Type 0
 Run-ends [] e = e ≡ clean
 Run-ends (b ∷ bs) e = Unit {0}
+
+-- a run begins here
+abbrev pub Starts-run : List ℕ → Type 0
+Starts-run [] = ⊥
+Starts-run (b ∷ bs) = T (regular b)
+
+-- and its first byte is no digit, sign or dot
+abbrev pub Starts-no-number : List ℕ → Type 0
+Starts-no-number [] = Unit {0}
+Starts-no-number (b ∷ bs) = T (not (digit b || sign b || eqb b dot-sign))
 
 -- one reading, from an object's first byte on: what stands there came out, and its inside is a source of its own
 pub record Read {I : Type 0} (meaning : I → Meaning) (lies : I → Option Address) (before now : Meaning) (home : Option Address) (r : Result (Object I) Refusal) : Type 0 where

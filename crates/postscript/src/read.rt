@@ -7,7 +7,7 @@ ghost use Rattle.definitions.specs.Grammar.{«Hex-head»};
 ghost use Rattle.definitions.specs.Moves.{first, rest};
 ghost use Rattle.definitions.specs.Sources.{fault};
 ghost use Rattle.syntax.specs.Skips.{Closes};
-ghost use Rattle.postscript.specs.Reading.{«At-end», «Open-reason», Between, Closed, Read, «Run-ends»};
+ghost use Rattle.postscript.specs.Reading.{«At-end», «Open-reason», Between, Closed, Read, «Run-ends», «Starts-run», «Starts-no-number»};
 use super::array::Array;
 use super::error::Reason;
 use super::error::Refusal;
@@ -177,5 +177,56 @@ fn literal_name<S: Windowed>(source: &mut S) -> Result<Object<S::Inside>, Refusa
     Ok(Object::Name(Name {
         part: between(start, &from, source, 0),
         literal: true,
+    }))
+}
+
+// A run that begins as a number may: what it is, the number machine says.
+fn number_run<S: Windowed>(source: &mut S) -> Result<Object<S::Inside>, Refusal>
+    requires { ⌜ Starts-run (S·Source .meaning (now source) .to-come) ⌝ }
+    ensures reads { λ r. ⌜ Read (Inside·Source .meaning) (Inside·Source .lies) (S·Source .meaning (now (source .entry))) (S·Source .meaning (now (source .exit))) (S·Source .lies (now (source .entry))) r ⌝ }
+    ensures lies { λ _. ⌜ S·Source .lies (now (source .exit)) ≡ S·Source .lies (now (source .entry)) ⌝ }
+{
+    let place = source.place();
+    let from = *source;
+    let reading = read_run(source);
+    if let Err(f) = run_end(source) {
+        return Err(Refusal {
+            place,
+            reason: Reason::Fault(f),
+        });
+    }
+    let part = between(place, &from, source, 0);
+    match reading {
+        Reading::Integer(n) => Ok(Object::Integer(part, n)),
+        Reading::Real(d) => Ok(Object::Real(part, d)),
+        Reading::PastLimits => Err(Refusal {
+            place,
+            reason: Reason::PastLimits,
+        }),
+        Reading::Name => Ok(Object::Name(Name {
+            part,
+            literal: false,
+        })),
+    }
+}
+
+// A run that begins as no number does.
+fn executable_name<S: Windowed>(source: &mut S) -> Result<Object<S::Inside>, Refusal>
+    requires { ⌜ Starts-run (S·Source .meaning (now source) .to-come) ⌝ ∗ ⌜ Starts-no-number (S·Source .meaning (now source) .to-come) ⌝ }
+    ensures reads { λ r. ⌜ Read (Inside·Source .meaning) (Inside·Source .lies) (S·Source .meaning (now (source .entry))) (S·Source .meaning (now (source .exit))) (S·Source .lies (now (source .entry))) r ⌝ }
+    ensures lies { λ _. ⌜ S·Source .lies (now (source .exit)) ≡ S·Source .lies (now (source .entry)) ⌝ }
+{
+    let place = source.place();
+    let from = *source;
+    pass(source, &Regular);
+    if let Err(f) = run_end(source) {
+        return Err(Refusal {
+            place,
+            reason: Reason::Fault(f),
+        });
+    }
+    Ok(Object::Name(Name {
+        part: between(place, &from, source, 0),
+        literal: false,
     }))
 }
