@@ -41,12 +41,17 @@ abbrev pub Insides : {I : Type 0} → (I → Meaning) → (I → Option Address)
 Insides meaning lies home (Ok x) = Inside meaning lies home x
 Insides meaning lies home (Err r) = Unit {0}
 
+-- a refusal as the outcome has it
+abbrev pub Refused : Outcome → Refusal → Meaning → Meaning → Type 0
+Refused (an-object o rest) r before now = ⊥
+Refused (a-refusal n piece rest) r before now = (number-of (r .reason) ≡ n) × (r .place ≡ before .place) × (fault-of (r .reason) ≡ carried n (before .ending)) × (now ≡ after before piece rest)
+
 -- what stands after the gap was handed over, or refused, and passed
 abbrev pub Came : {I : Type 0} → (I → Meaning) → Outcome → Result (Object I) Refusal → Meaning → Meaning → Type 0
 Came meaning (an-object o rest) (Ok x) before now = (as-handed meaning x ≡ handed (before .place) o) × (now ≡ after before (o .whole) rest)
 Came meaning (an-object o rest) (Err r) before now = ⊥
 Came meaning (a-refusal n piece rest) (Ok x) before now = ⊥
-Came meaning (a-refusal n piece rest) (Err r) before now = (number-of (r .reason) ≡ n) × (r .place ≡ before .place) × (fault-of (r .reason) ≡ carried n (before .ending)) × (now ≡ after before piece rest)
+Came meaning (a-refusal n piece rest) (Err r) before now = Refused (a-refusal n piece rest) r before now
 
 -- the reason at an end: the fault, or another reason at a clean end
 abbrev pub At-end : Ending → Reason → Reason → Type 0

@@ -1,13 +1,16 @@
+ghost use mathlib.Core.Bool.{true, false};
 ghost use mathlib.Core.List.{[]};
 ghost use mathlib.Core.Path.{_≡_};
 ghost use Prim.Native.Nat.{_+_, _≤_};
 ghost use Rattle.std.specs.declared.option.Option.the-variants.{Some};
 ghost use Rattle.std.specs.Results.{Cases};
 ghost use Rattle.definitions.specs.Grammar.{«Hex-head»};
+ghost use Rattle.definitions.specs.Gaps.{«Past-gap»};
 ghost use Rattle.definitions.specs.Moves.{first, rest};
+ghost use Rattle.definitions.specs.Outcomes.{«of-close»};
 ghost use Rattle.definitions.specs.Sources.{fault};
 ghost use Rattle.syntax.specs.Skips.{Closes};
-ghost use Rattle.postscript.specs.Reading.{«At-end», «Open-reason», Between, Closed, Read, «Run-ends», «Starts-run», «Starts-no-number»};
+ghost use Rattle.postscript.specs.Reading.{«At-end», «Open-reason», Between, Closed, Read, Refused, «Run-ends», «Starts-run», «Starts-no-number»};
 use super::array::Array;
 use super::error::Reason;
 use super::error::Refusal;
@@ -229,4 +232,74 @@ fn executable_name<S: Windowed>(source: &mut S) -> Result<Object<S::Inside>, Ref
         part: between(place, &from, source, 0),
         literal: false,
     }))
+}
+
+// Whether the byte after the first to come is this one.
+fn followed_by<S: Source>(source: &S, b: u8) -> bool
+    ensures { λ r. ⌜ (r ≡ true → first (rest (S·Source .meaning (now (source .entry)) .to-come)) ≡ Some b) × (r ≡ false → first (rest (S·Source .meaning (now (source .entry)) .to-come)) ≡ Some b → ⊥) ⌝ }
+{
+    let mut ahead = *source;
+    ahead.step();
+    match ahead.peek() {
+        Some(c) => c == b,
+        None => false,
+    }
+}
+
+// A single >: it is half of a mark where a fault comes right after it.
+fn single_angle<S: Source>(source: &mut S) -> Refusal
+    requires { ⌜ first (S·Source .meaning (now source) .to-come) ≡ Some 62 ⌝ }
+    ensures closes { λ r. ⌜ Refused (of-close (rest (S·Source .meaning (now (source .entry)) .to-come)) (S·Source .meaning (now (source .entry)) .ending)) r (S·Source .meaning (now (source .entry))) (S·Source .meaning (now (source .exit))) ⌝ }
+    ensures lies { λ _. ⌜ S·Source .lies (now (source .exit)) ≡ S·Source .lies (now (source .entry)) ⌝ }
+{
+    let place = source.place();
+    let mut ahead = *source;
+    ahead.step();
+    if let Err(f) = run_end(&ahead) {
+        *source = ahead;
+        return Refusal {
+            place,
+            reason: Reason::Fault(f),
+        };
+    }
+    Refusal {
+        place,
+        reason: Reason::Stray,
+    }
+}
+
+// What stands after the gap: its first byte decides which rule is tried.
+fn read_here<S: Windowed>(source: &mut S) -> Result<Object<S::Inside>, Refusal>
+    requires { ⌜ Past-gap (S·Source .meaning (now source) .to-come) ⌝ }
+    ensures reads { λ r. ⌜ Read (Inside·Source .meaning) (Inside·Source .lies) (S·Source .meaning (now (source .entry))) (S·Source .meaning (now (source .exit))) (S·Source .lies (now (source .entry))) r ⌝ }
+    ensures lies { λ _. ⌜ S·Source .lies (now (source .exit)) ≡ S·Source .lies (now (source .entry)) ⌝ }
+{
+    let place = source.place();
+    let Some(b) = source.peek() else {
+        return Err(Refusal {
+            place,
+            reason: at_end_or(source, Reason::Missing),
+        });
+    };
+    match b {
+        b'(' => literal_string(source),
+        b'<' if followed_by(source, b'~') => ascii85_string(source),
+        b'<' => hex_string(source),
+        b'[' => array(source),
+        b'/' => literal_name(source),
+        b'0'..=b'9' | b'+' | b'-' | b'.' => number_run(source),
+        b')' | b']' | b'}' => Err(Refusal {
+            place,
+            reason: Reason::Stray,
+        }),
+        b'>' => Err(single_angle(source)),
+        b'{' => {
+            source.step();
+            Err(Refusal {
+                place,
+                reason: Reason::Unsupported,
+            })
+        }
+        _ => executable_name(source),
+    }
 }
