@@ -2,3 +2,4 @@ pub mod Looking
 pub mod Taking
 pub mod Bracketed
 pub mod Runs
+pub mod OneTurn

@@ -5,5 +5,5 @@ pub mod name;
 pub mod object;
 pub mod part;
 mod read;
-// pub mod scanner;
+pub mod scanner;
 pub mod string;

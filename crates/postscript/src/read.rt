@@ -1,5 +1,5 @@
 ghost use mathlib.Core.Bool.{true, false};
-ghost use mathlib.Core.List.{[]};
+ghost use mathlib.Core.List.{List, []};
 ghost use mathlib.Core.Path.{_≡_};
 ghost use Prim.Native.Nat.{_+_, _≤_};
 ghost use Rattle.std.specs.declared.option.Option.the-variants.{Some};
@@ -8,9 +8,10 @@ ghost use Rattle.definitions.specs.Grammar.{«Hex-head»};
 ghost use Rattle.definitions.specs.Gaps.{«Past-gap»};
 ghost use Rattle.definitions.specs.Moves.{first, rest};
 ghost use Rattle.definitions.specs.Outcomes.{«of-close»};
+ghost use Rattle.definitions.specs.PlainReader.{Piece, Turn, parses, «parse-object»};
 ghost use Rattle.definitions.specs.Sources.{fault};
 ghost use Rattle.syntax.specs.Skips.{Closes};
-ghost use Rattle.postscript.specs.Reading.{«At-end», «Open-reason», Between, Closed, Read, Refused, «Run-ends», «Starts-run», «Starts-no-number»};
+ghost use Rattle.postscript.specs.Reading.{«At-end», «Open-reason», Between, Closed, Read, Refused, Insides, answered, «Run-ends», «Starts-run», «Starts-no-number»};
 use super::array::Array;
 use super::error::Reason;
 use super::error::Refusal;
@@ -302,4 +303,14 @@ fn read_here<S: Windowed>(source: &mut S) -> Result<Object<S::Inside>, Refusal>
         }
         _ => executable_name(source),
     }
+}
+
+// One turn: passes the gap, and reads what stands after it.
+pub(crate) fn read<S: Windowed>(source: &mut S) -> Result<Object<S::Inside>, Refusal>
+    ensures turn { λ r. ⌜ ((ps : List Piece) × Turn (S·Source .meaning (now (source .entry))) (parses parse-object) (answered (Inside·Source .meaning) r) ps (S·Source .meaning (now (source .exit)))) ⌝ }
+    ensures insides { λ r. ⌜ Insides (Inside·Source .meaning) (Inside·Source .lies) (S·Source .lies (now (source .entry))) r ⌝ }
+    ensures lies { λ _. ⌜ S·Source .lies (now (source .exit)) ≡ S·Source .lies (now (source .entry)) ⌝ }
+{
+    pass_gap(source);
+    read_here(source)
 }

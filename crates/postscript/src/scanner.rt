@@ -1,0 +1,48 @@
+ghost use mathlib.Core.List.{List, [], _∷_};
+ghost use mathlib.Core.Path.{_≡_};
+ghost use Prim.Native.Nat.{ℕ};
+ghost use Rattle.definitions.specs.PlainReader.{Turn, «at-end», «yes-no», gap};
+use super::error::Refusal;
+use super::object::Object;
+use super::read::read;
+use reader::source::Ending;
+use reader::source::Source;
+use reader::source::Windowed;
+use syntax::gap::pass_gap;
+
+// A scanner: it reads one object after the other from its source.
+#[derive(Clone, Copy)]
+pub struct Scanner<S> {
+    source: S,
+}
+
+impl<S: Windowed> Scanner<S> {
+    pub fn new(source: S) -> Scanner<S>
+        ensures { λ r. ⌜ r .source ≡ source ⌝ }
+    {
+        Scanner { source }
+    }
+
+    // The place of the first byte that was not passed yet.
+    pub fn place(&self) -> u32
+        ensures { λ r. ⌜ r ≡ S·Source .meaning (now (self .entry) .source) .place ⌝ }
+    {
+        self.source.place()
+    }
+
+    // Passes the gap, and says whether a clean end is reached.
+    pub fn at_end(&mut self) -> bool
+        ensures { λ r. ⌜ ((g : List ℕ) × Turn (S·Source .meaning (now (self .entry) .source)) at-end (yes-no r) (gap g ∷ []) (S·Source .meaning (now (self .exit) .source))) ⌝ }
+    {
+        pass_gap(&mut self.source);
+        match self.source.ending() {
+            Some(Ending::Clean) => true,
+            _ => false,
+        }
+    }
+
+    // The object after the gap, or the refusal of what stands there.
+    pub fn parse_object(&mut self) -> Result<Object<S::Inside>, Refusal> {
+        read(&mut self.source)
+    }
+}
