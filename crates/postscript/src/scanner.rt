@@ -1,7 +1,8 @@
 ghost use mathlib.Core.List.{List, [], _∷_};
 ghost use mathlib.Core.Path.{_≡_};
 ghost use Prim.Native.Nat.{ℕ};
-ghost use Rattle.definitions.specs.PlainReader.{Turn, «at-end», «yes-no», gap};
+ghost use Rattle.definitions.specs.PlainReader.{Turn, Piece, parses, «parse-object», «at-end», «yes-no», gap};
+ghost use Rattle.postscript.specs.Reading.{Insides, answered};
 use super::error::Refusal;
 use super::object::Object;
 use super::read::read;
@@ -32,7 +33,8 @@ impl<S: Windowed> Scanner<S> {
 
     // Passes the gap, and says whether a clean end is reached.
     pub fn at_end(&mut self) -> bool
-        ensures { λ r. ⌜ ((g : List ℕ) × Turn (S·Source .meaning (now (self .entry) .source)) at-end (yes-no r) (gap g ∷ []) (S·Source .meaning (now (self .exit) .source))) ⌝ }
+        ensures turn { λ r. ⌜ ((g : List ℕ) × Turn (S·Source .meaning (now (self .entry) .source)) at-end (yes-no r) (gap g ∷ []) (S·Source .meaning (now (self .exit) .source))) ⌝ }
+        ensures lies { λ _. ⌜ S·Source .lies (now (self .exit) .source) ≡ S·Source .lies (now (self .entry) .source) ⌝ }
     {
         pass_gap(&mut self.source);
         match self.source.ending() {
@@ -42,7 +44,11 @@ impl<S: Windowed> Scanner<S> {
     }
 
     // The object after the gap, or the refusal of what stands there.
-    pub fn parse_object(&mut self) -> Result<Object<S::Inside>, Refusal> {
+    pub fn parse_object(&mut self) -> Result<Object<S::Inside>, Refusal>
+        ensures turn { λ r. ⌜ ((ps : List Piece) × Turn (S·Source .meaning (now (self .entry) .source)) (parses parse-object) (answered (Inside·Source .meaning) r) ps (S·Source .meaning (now (self .exit) .source))) ⌝ }
+        ensures insides { λ r. ⌜ Insides (Inside·Source .meaning) (Inside·Source .lies) (S·Source .lies (now (self .entry) .source)) r ⌝ }
+        ensures lies { λ _. ⌜ S·Source .lies (now (self .exit) .source) ≡ S·Source .lies (now (self .entry) .source) ⌝ }
+    {
         read(&mut self.source)
     }
 }

@@ -9,16 +9,16 @@ pub returns-in-Some-Clean : need.returns-in-Some-Clean
 returns-in-Some-Clean g c =
     let m = g .S·Source .meaning (c .pass-gap .last .source) in
     let e : at-clean-end (m .to-come) (m .ending) ≡ true = search needs in
-    looked _ m true (c .pass-gap .ensures .gap) e
+    record { turn = looked _ m true (c .pass-gap .ensures .gap) e; lies = c .pass-gap .ensures .lies }
 
 pub returns-in-rest : need.returns-in-rest
 returns-in-rest g c =
     let m = g .S·Source .meaning (c .pass-gap .last .source) in
     let e : at-clean-end (m .to-come) (m .ending) ≡ false = search needs in
-    looked _ m false (c .pass-gap .ensures .gap) e
+    record { turn = looked _ m false (c .pass-gap .ensures .gap) e; lies = c .pass-gap .ensures .lies }
 
 pub returns-in-rest·2 : need.returns-in-rest·2
 returns-in-rest·2 g c =
     let m = g .S·Source .meaning (c .pass-gap .last .source) in
     let e : at-clean-end (m .to-come) (m .ending) ≡ false = search needs in
-    looked _ m false (c .pass-gap .ensures .gap) e
+    record { turn = looked _ m false (c .pass-gap .ensures .gap) e; lies = c .pass-gap .ensures .lies }
