@@ -25,7 +25,7 @@ run-long Run-shows.integer-run l = l
 run-long Run-shows.real-run l = l
 run-long Run-shows.name-run l = l
 
-begins-long : {bs : List ℕ} {e : Ending} {o : Shown} {rest : List ℕ} → Begins bs e o rest → 0 < length (o .whole)
+pub begins-long : {bs : List ℕ} {e : Ending} {o : Shown} {rest : List ℕ} → Begins bs e o rest → 0 < length (o .whole)
 begins-long (Begins.string x) = string-long x
 begins-long (Begins.array x) = omega arith
 begins-long (Begins.literal-name u a h) = omega arith

@@ -9,3 +9,10 @@ pub enum Entry<I> {
     Refused(Refusal),
     End(u32),
 }
+
+// A line that was written: its length, and whether the listing ends with it.
+#[derive(Clone, Copy)]
+pub struct Written {
+    pub length: usize,
+    pub last: bool,
+}

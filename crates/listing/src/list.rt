@@ -1,4 +1,7 @@
+ghost use mathlib.Core.Path.{_≡_};
+ghost use Rattle.listing.specs.Entries.{«Comes-next», «ends-with», «Lists-next»};
 use super::entry::Entry;
+use super::entry::Written;
 use super::lines::LONGEST;
 use super::lines::write_line;
 use postscript::error::Reason;
@@ -7,15 +10,10 @@ use postscript::scanner::Scanner;
 use reader::source::Source;
 use reader::source::Windowed;
 
-// A line that was written: its length, and whether the listing ends with it.
-#[derive(Clone, Copy)]
-pub struct Written {
-    pub length: usize,
-    pub last: bool,
-}
-
 // What the next line tells of.
-fn next_entry<S: Windowed>(scanner: &mut Scanner<S>) -> Entry<S::Inside> {
+fn next_entry<S: Windowed>(scanner: &mut Scanner<S>) -> Entry<S::Inside>
+    ensures { λ r. ⌜ Comes-next (Inside·Source .meaning) (S·Source .meaning (now (scanner .entry) .source)) (S·Source .meaning (now (scanner .exit) .source)) r ⌝ }
+{
     if scanner.at_end() {
         return Entry::End(scanner.place());
     }
@@ -25,7 +23,9 @@ fn next_entry<S: Windowed>(scanner: &mut Scanner<S>) -> Entry<S::Inside> {
     }
 }
 
-fn is_last<I: Source>(entry: &Entry<I>) -> bool {
+fn is_last<I: Source>(entry: &Entry<I>) -> bool
+    ensures { λ r. ⌜ r ≡ ends-with (now (entry .entry)) ⌝ }
+{
     match entry {
         Entry::Object(_) => false,
         _ => true,
@@ -37,7 +37,9 @@ fn is_last<I: Source>(entry: &Entry<I>) -> bool {
 pub fn list_next<S: Windowed>(
     scanner: &mut Scanner<S>,
     buffer: &mut [u8],
-) -> Result<Written, Refusal> {
+) -> Result<Written, Refusal>
+    ensures { λ r. ⌜ Lists-next (now (buffer .entry)) (now (buffer .exit)) (S·Source .meaning (now (scanner .entry) .source)) (S·Source .meaning (now (scanner .exit) .source)) r ⌝ }
+{
     if buffer.len() < LONGEST {
         return Err(Refusal {
             place: 0,
@@ -45,9 +47,7 @@ pub fn list_next<S: Windowed>(
         });
     }
     let entry = next_entry(scanner);
+    let last = is_last(&entry);
     let length = write_line(&entry, buffer)?;
-    Ok(Written {
-        length,
-        last: is_last(&entry),
-    })
+    Ok(Written { length, last })
 }
