@@ -37,15 +37,16 @@ took-fewer h (Turn.takes {g = g} {bs = bs} {rest = rest} {o = o} p b j) e = omeg
 took-fewer h (Turn.refuses p r) e = let z : _≡_ {A = ℕ} 0 1 = cc in absurd (omega arith)
 took-fewer h (Turn.looks p) e = let z : _≡_ {A = ℕ} 0 1 = cc in absurd (omega arith)
 
+-- a line that was written has no more bytes than its buffer
+pub told-length : (buffer text : List ℕ) (n : ℕ) (d : Told) (after : List ℕ) → Writes-line buffer text d after → d ≡ decoded n → n ≤ length after
+told-length buffer text n d after (Writes-line.too-short h) e = let z : _≡_ {A = ℕ} 0 1 = cc in absurd (omega arith)
+told-length buffer text n d after (Writes-line.writes h) e = let k : length text ≡ n = cc in omega (arith, length-append text (drop (length text) buffer))
+
 module _ {I : Type 0} (meaning : I → Meaning) where
   next-fewer : (e : Entry I) (s t : Meaning) → Comes-next meaning s t e → ends-with e ≡ false → length (t .to-come) < length (s .to-come)
   next-fewer (End p) s t x h = let z : _≡_ {A = ℕ} 0 1 = cc in absurd (omega arith)
   next-fewer (Refused r) s t x h = let z : _≡_ {A = ℕ} 0 1 = cc in absurd (omega arith)
   next-fewer (Object o) s t (u, ps, qs, x, y) h = omega (arith, look-fewer x, took-fewer (as-handed meaning o) y refl)
-
-  told-length : (buffer text : List ℕ) (n : ℕ) (d : Told) (after : List ℕ) → Writes-line buffer text d after → d ≡ decoded n → n ≤ length after
-  told-length buffer text n d after (Writes-line.too-short h) e = let z : _≡_ {A = ℕ} 0 1 = cc in absurd (omega arith)
-  told-length buffer text n d after (Writes-line.writes h) e = let k : length text ≡ n = cc in omega (arith, length-append text (drop (length text) buffer))
 
   pub next-line : (e : Entry I) (s t : Meaning) (buffer after : List ℕ) (n : ℕ) (last : Bool) → Comes-next meaning s t e → Writes-line buffer (line-of meaning e) (decoded n) after → last ≡ ends-with e → Listed-line buffer after s t n last
   next-line e s t buffer after n last x w l = record {

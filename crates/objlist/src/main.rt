@@ -43,7 +43,7 @@ fn refuse<W: Write>(output: &mut W) -> io::Result<()> {
         },
         &mut line,
     ) {
-        output.write_all(&line[0..length.min(LONGEST)])?;
+        output.write_all(&line[0..length])?;
     }
     Ok(())
 }
@@ -52,12 +52,9 @@ fn refuse<W: Write>(output: &mut W) -> io::Result<()> {
 fn list<W: Write>(job: &[u8], output: &mut W) -> io::Result<()> {
     let mut scanner = Scanner::new(Lent::new(job));
     let mut line = [0u8; LONGEST];
-    // each line but the last takes a byte at least
-    for _ in 0..=MOST {
-        let Ok(written) = list_next(&mut scanner, &mut line) else {
-            break;
-        };
-        output.write_all(&line[0..written.length.min(LONGEST)])?;
+    while let Ok(written) = list_next(&mut scanner, &mut line) {
+        let length = written.length;
+        output.write_all(&line[0..length])?;
         if written.last {
             break;
         }

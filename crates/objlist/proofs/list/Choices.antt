@@ -1,6 +1,11 @@
 use mathlib.Core.Path.{_≡_}
 use lib.ListN.{length}
+use Rattle.reader.specs.Lent.{lent-at}
 use Rattle.objlist.proofs.list.Given as given
 
-abbrev pub Inv-loop : given.InvT-loop
-Inv-loop g l = length (l .line) ≡ 48
+abbrev pub Inv-loop-written : given.InvT-loop-written
+Inv-loop-written g l = length (l .line) ≡ 48
+
+-- each line but the last takes a byte at least
+abbrev pub μ-loop-written : given.MeasureT-loop-written
+μ-loop-written g l = length (lent-at (l .scanner .source) .to-come)
