@@ -1,5 +1,5 @@
 -- The class table: one computed test of all its entries, and what each bit says. Assumes nothing.
-use mathlib.Core.Bool.{Bool, true, false, not, _&&_, Bool·beq}
+use mathlib.Core.Bool.{Bool, true, false, not, cond, _&&_, Bool·beq}
 use mathlib.Core.List.{List, [], _∷_}
 use mathlib.Core.Path.{_≡_, refl, sym, ap, _∙_}
 use Prim.Native.Nat.{ℕ, zero, suc, _+_, _<_}
@@ -9,7 +9,14 @@ use lib.Bits.{bitAnd}
 use lib.Dec.{T, eqb}
 use lib.ListN.{getD}
 use Rattle.definitions.specs.Bytes.{blank, delimiter, comment-end, digit, octal}
-use Rattle.reader.specs.Table.{flags, marks}
+
+-- a bit for each of five classes
+abbrev flags : Bool → Bool → Bool → Bool → Bool → ℕ
+flags v w x y z = cond v 1 0 + cond w 2 0 + cond x 4 0 + cond y 8 0 + cond z 16 0
+
+-- the bits of a byte
+abbrev pub marks : ℕ → ℕ
+marks b = flags (blank b) (delimiter b) (comment-end b) (digit b) (octal b)
 
 left : (a b : Bool) → T (a && b) → T a
 left true b t = tt

@@ -1,4 +1,3 @@
 pub mod Addresses
 pub mod Endings
 pub mod Lent
-pub mod Table

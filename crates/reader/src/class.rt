@@ -1,11 +1,11 @@
 ghost use mathlib.Core.Bool.{Bool, not};
 ghost use mathlib.Core.Path.{_≡_};
 ghost use Prim.Native.Nat.{ℕ};
-ghost use lib.Dec.{ltb};
+ghost use lib.Bits.{bitAnd};
+ghost use lib.Dec.{eqb, ltb};
 ghost use Rattle.definitions.specs.Bytes.{blank, delimiter, regular, «comment-end», digit, octal, «other-than»};
 ghost use Rattle.definitions.specs.Moves.{«past-class»};
 ghost use Rattle.definitions.specs.Numbers.{«digit-worth»};
-ghost use Rattle.reader.specs.Table.{marks};
 use super::source::Source;
 
 const BLANK: u8 = 1;
@@ -39,7 +39,12 @@ const CLASSES: &[u8; 256] = b"\
 
 // The bits of a byte's classes.
 fn marks_of(b: u8) -> u8
-    ensures { λ r. ⌜ r ≡ marks b ⌝ }
+    ensures blank { λ r. ⌜ not (eqb (bitAnd r 1) 0) ≡ blank b ⌝ }
+    ensures delimiter { λ r. ⌜ not (eqb (bitAnd r 2) 0) ≡ delimiter b ⌝ }
+    ensures regular { λ r. ⌜ eqb (bitAnd r 3) 0 ≡ regular b ⌝ }
+    ensures comment { λ r. ⌜ not (eqb (bitAnd r 4) 0) ≡ comment-end b ⌝ }
+    ensures digit { λ r. ⌜ not (eqb (bitAnd r 8) 0) ≡ digit b ⌝ }
+    ensures octal { λ r. ⌜ not (eqb (bitAnd r 16) 0) ≡ octal b ⌝ }
 {
     CLASSES[b as usize]
 }
