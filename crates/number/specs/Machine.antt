@@ -10,7 +10,7 @@ use Rattle.number.specs.declared.state.Mantissa.{Mantissa}
 use Rattle.number.specs.declared.state.Sign.{Sign}
 use Rattle.number.specs.declared.state.Sign.the-variants.{None, Plus, Minus}
 use Rattle.number.specs.declared.state.State.{State}
-use Rattle.number.specs.declared.state.State.the-variants.{Start, Signed, Whole, Dot, Fraction, Exponent, ExponentSign, ExponentDigits, Radix, RadixDigits, Dead}
+use Rattle.number.specs.declared.state.State.the-variants.{Start, Signed, Whole, Dot, Fraction, Exponent, ExponentSign, Power, Radix, Bits, Dead}
 
 abbrev pub minus : Sign → Bool
 minus None = false
@@ -42,6 +42,10 @@ placed-of m d = record { sign = m .sign; c = longer (m .c) d; places = m .places
 abbrev pub e-sign : ℕ → Bool
 e-sign b = eqb b small-e || eqb b capital-e
 
+-- one byte more after a base and #; from 2 ^ 32 on no number is told apart from another
+abbrev pub radix-of : ℕ → ℕ → ℕ → State
+radix-of r n b = cond (ltb (digit-worth b) r) (Bits r (min (n * r + digit-worth b) (2 ^ 32))) Dead
+
 -- one byte more of a run
 abbrev pub next-of : State → ℕ → State
 next-of Start b = cond (eqb b plus-sign) (Signed Plus) (cond (eqb b minus-sign) (Signed Minus) (cond (digit b) (Whole None (b - digit-zero)) (cond (eqb b dot-sign) (Dot None) Dead)))
@@ -49,11 +53,11 @@ next-of (Signed s) b = cond (digit b) (Whole s (b - digit-zero)) (cond (eqb b do
 next-of (Whole s c) b = cond (digit b) (Whole s (longer c (b - digit-zero))) (cond (eqb b dot-sign) (Fraction (whole-of s c)) (cond (e-sign b) (Exponent (whole-of s c)) (cond (eqb b hash-sign && base s c) (Radix c) Dead)))
 next-of (Dot s) b = cond (digit b) (Fraction (placed-of (whole-of s 0) (b - digit-zero))) Dead
 next-of (Fraction m) b = cond (digit b) (Fraction (placed-of m (b - digit-zero))) (cond (e-sign b) (Exponent m) Dead)
-next-of (Exponent m) b = cond (eqb b plus-sign) (ExponentSign m Plus) (cond (eqb b minus-sign) (ExponentSign m Minus) (cond (digit b) (ExponentDigits m None (b - digit-zero)) Dead))
-next-of (ExponentSign m s) b = cond (digit b) (ExponentDigits m s (b - digit-zero)) Dead
-next-of (ExponentDigits m s n) b = cond (digit b) (ExponentDigits m s (min (n * 10 + (b - digit-zero)) (10 ^ 10))) Dead
-next-of (Radix r) b = cond (ltb (digit-worth b) r) (RadixDigits r (digit-worth b)) Dead
-next-of (RadixDigits r n) b = cond (ltb (digit-worth b) r) (RadixDigits r (min (n * r + digit-worth b) (2 ^ 32))) Dead
+next-of (Exponent m) b = cond (eqb b plus-sign) (ExponentSign m Plus) (cond (eqb b minus-sign) (ExponentSign m Minus) (cond (digit b) (Power m None (b - digit-zero)) Dead))
+next-of (ExponentSign m s) b = cond (digit b) (Power m s (b - digit-zero)) Dead
+next-of (Power m s n) b = cond (digit b) (Power m s (min (n * 10 + (b - digit-zero)) (10 ^ 10))) Dead
+next-of (Radix r) b = radix-of r 0 b
+next-of (Bits r n) b = radix-of r n b
 next-of Dead b = Dead
 
 abbrev pub dead : State → Bool
@@ -64,9 +68,9 @@ dead (Dot s) = false
 dead (Fraction m) = false
 dead (Exponent m) = false
 dead (ExponentSign m s) = false
-dead (ExponentDigits m s n) = false
+dead (Power m s n) = false
 dead (Radix r) = false
-dead (RadixDigits r n) = false
+dead (Bits r n) = false
 dead Dead = true
 
 -- what a run is, once all of it was read
@@ -78,9 +82,9 @@ finish-of (Dot s) = name
 finish-of (Fraction m) = real-reading (minus (m .sign)) (m .c) (pos 0 -ℤ pos (m .places))
 finish-of (Exponent m) = name
 finish-of (ExponentSign m s) = name
-finish-of (ExponentDigits m s n) = real-reading (minus (m .sign)) (m .c) (signed (minus s) n -ℤ pos (m .places))
+finish-of (Power m s n) = real-reading (minus (m .sign)) (m .c) (signed (minus s) n -ℤ pos (m .places))
 finish-of (Radix r) = name
-finish-of (RadixDigits r n) = radix-reading n
+finish-of (Bits r n) = radix-reading n
 finish-of Dead = name
 
 -- with so many bytes to come the places stay below the limit of a source
@@ -97,7 +101,7 @@ Sound left (Dot s) = Unit {0}
 Sound left (Fraction m) = In-bounds left m
 Sound left (Exponent m) = In-bounds left m
 Sound left (ExponentSign m s) = In-bounds left m
-Sound left (ExponentDigits m s n) = In-bounds left m × (n ≤ 10 ^ 10)
-Sound left (Radix r) = r ≤ 36
-Sound left (RadixDigits r n) = (r ≤ 36) × (n ≤ 2 ^ 32)
+Sound left (Power m s n) = In-bounds left m × (n ≤ 10 ^ 10)
+Sound left (Radix r) = Unit {0}
+Sound left (Bits r n) = n ≤ 2 ^ 32
 Sound left Dead = Unit {0}

@@ -8,7 +8,7 @@ ghost use Rattle.definitions.specs.Bytes.{regular, front};
 ghost use Rattle.definitions.specs.Moves.{«past-class»};
 ghost use Rattle.definitions.specs.Numbers.{signed, settled, Reads};
 ghost use Rattle.definitions.specs.Readings.{«fits?», «radix-reading», «real-reading»};
-ghost use Rattle.number.specs.Machine.{minus, dead, base, «whole-of», «placed-of», «next-of», «finish-of», «In-bounds», Sound};
+ghost use Rattle.number.specs.Machine.{minus, dead, base, «whole-of», «placed-of», «radix-of», «next-of», «finish-of», «In-bounds», Sound};
 ghost use Rattle.number.specs.Runs.{«as-reading»};
 use super::decimal::Decimal;
 use super::state::Mantissa;
@@ -35,17 +35,17 @@ const MOST_DIGITS: u64 = 1_000_000_000_000_000_000;
 
 // No exponent from here on is told apart from another: it is past the limits however many of a
 // run's bytes, fewer than 2^32, stand after the dot.
-const MOST_EXPONENT: u64 = 10_000_000_000;
+const MOST_POWER: u64 = 10_000_000_000;
 
 // Nor is a radix number from 2^32 on.
 const MOST_BITS: u64 = 4_294_967_296;
 
-// One digit more of a number in a base; from `most` on it is `most`.
-fn with_digit(n: u64, base: u8, digit: u8, most: u64) -> u64
-    requires { ⌜ n * base ≤ 10 ^ 19 ⌝ }
-    ensures { λ r. ⌜ r ≡ min (n * base + digit) most ⌝ }
+// One decimal digit more; from `most` on it is `most`.
+fn with_digit(n: u64, digit: u8, most: u64) -> u64
+    requires { ⌜ n ≤ 10 ^ 18 ⌝ }
+    ensures { λ r. ⌜ r ≡ min (n * 10 + digit) most ⌝ }
 {
-    let longer = n * base as u64 + digit as u64;
+    let longer = n * 10 + digit as u64;
     if longer < most { longer } else { most }
 }
 
@@ -80,12 +80,30 @@ fn with_place(m: Mantissa, digit: u8) -> Mantissa
     requires { ⌜ In-bounds 1 m ⌝ }
     ensures { λ r. ⌜ r ≡ placed-of m digit ⌝ }
 {
-    let c = with_digit(m.c, 10, digit, MOST_DIGITS);
+    let c = with_digit(m.c, digit, MOST_DIGITS);
     Mantissa {
         sign: m.sign,
         c,
         places: m.places + 1,
     }
+}
+
+// One byte more after the #: a digit of the base, or no number.
+fn radix_digit(base: u8, n: u64, b: u8) -> State
+    requires { ⌜ n ≤ 2 ^ 32 ⌝ }
+    ensures { λ r. ⌜ r ≡ radix-of base n b ⌝ }
+{
+    let digit = digit_worth(b);
+    if digit >= base {
+        return State::Dead;
+    }
+    let longer = n * base as u64 + digit as u64;
+    let bits = if longer < MOST_BITS {
+        longer
+    } else {
+        MOST_BITS
+    };
+    State::Bits(base, bits)
 }
 
 // One byte more of the run.
@@ -98,43 +116,26 @@ fn next(state: State, b: u8) -> State
         (State::Start, b'-') => State::Signed(Sign::Minus),
         (State::Start, b'0'..=b'9') => State::Whole(Sign::None, (b - b'0') as u64),
         (State::Start, b'.') => State::Dot(Sign::None),
-        (State::Signed(sign), b'0'..=b'9') => State::Whole(sign, (b - b'0') as u64),
-        (State::Signed(sign), b'.') => State::Dot(sign),
-        (State::Whole(sign, c), b'0'..=b'9') => State::Whole(
-            sign,
-            with_digit(c, 10, b - b'0', MOST_DIGITS),
-        ),
-        (State::Whole(sign, c), b'.') => State::Fraction(whole(sign, c)),
-        (State::Whole(sign, c), b'e' | b'E') => State::Exponent(whole(sign, c)),
-        (State::Whole(sign, c), b'#') if is_base(sign, c) => State::Radix(c as u8),
-        (State::Dot(sign), b'0'..=b'9') => State::Fraction(with_place(whole(sign, 0), b - b'0')),
+        (State::Signed(s), b'0'..=b'9') => State::Whole(s, (b - b'0') as u64),
+        (State::Signed(s), b'.') => State::Dot(s),
+        (State::Whole(s, c), b'0'..=b'9') => State::Whole(s, with_digit(c, b - b'0', MOST_DIGITS)),
+        (State::Whole(s, c), b'.') => State::Fraction(whole(s, c)),
+        (State::Whole(s, c), b'e' | b'E') => State::Exponent(whole(s, c)),
+        (State::Whole(s, c), b'#') if is_base(s, c) => State::Radix(c as u8),
+        (State::Dot(s), b'0'..=b'9') => State::Fraction(with_place(whole(s, 0), b - b'0')),
         (State::Fraction(m), b'0'..=b'9') => State::Fraction(with_place(m, b - b'0')),
         (State::Fraction(m), b'e' | b'E') => State::Exponent(m),
         (State::Exponent(m), b'+') => State::ExponentSign(m, Sign::Plus),
         (State::Exponent(m), b'-') => State::ExponentSign(m, Sign::Minus),
-        (State::Exponent(m), b'0'..=b'9') => State::ExponentDigits(
+        (State::Exponent(m), b'0'..=b'9') => State::Power(m, Sign::None, (b - b'0') as u64),
+        (State::ExponentSign(m, s), b'0'..=b'9') => State::Power(m, s, (b - b'0') as u64),
+        (State::Power(m, s, n), b'0'..=b'9') => State::Power(
             m,
-            Sign::None,
-            (b - b'0') as u64,
+            s,
+            with_digit(n, b - b'0', MOST_POWER),
         ),
-        (State::ExponentSign(m, sign), b'0'..=b'9') => State::ExponentDigits(
-            m,
-            sign,
-            (b - b'0') as u64,
-        ),
-        (State::ExponentDigits(m, sign, n), b'0'..=b'9') => State::ExponentDigits(
-            m,
-            sign,
-            with_digit(n, 10, b - b'0', MOST_EXPONENT),
-        ),
-        (State::Radix(base), _) if digit_worth(b) < base => State::RadixDigits(
-            base,
-            digit_worth(b) as u64,
-        ),
-        (State::RadixDigits(base, n), _) if digit_worth(b) < base => State::RadixDigits(
-            base,
-            with_digit(n, base, digit_worth(b), MOST_BITS),
-        ),
+        (State::Radix(base), _) => radix_digit(base, 0, b),
+        (State::Bits(base, n), _) => radix_digit(base, n, b),
         _ => State::Dead,
     }
 }
@@ -152,18 +153,10 @@ fn is_dead(state: State) -> bool
 fn integer(sign: Sign, c: u64) -> Option<i32>
     ensures { λ r. ⌜ Cases r (fits? (minus sign) c ≡ false) (λ n. (fits? (minus sign) c ≡ true) × (n ≡ signed (minus sign) c)) ⌝ }
 {
-    if is_minus(sign) {
-        if c <= 2_147_483_648 {
-            Some((-(c as i64)) as i32)
-        } else {
-            None
-        }
-    } else {
-        if c <= 2_147_483_647 {
-            Some(c as i32)
-        } else {
-            None
-        }
+    match sign {
+        Sign::Minus if c <= 2_147_483_648 => Some((-(c as i64)) as i32),
+        Sign::None | Sign::Plus if c <= 2_147_483_647 => Some(c as i32),
+        _ => None,
     }
 }
 
@@ -230,8 +223,8 @@ fn finish(state: State) -> Reading
             None => real(whole(sign, c), 0),
         },
         State::Fraction(m) => real(m, 0),
-        State::ExponentDigits(m, sign, n) => real(m, exponent(sign, n)),
-        State::RadixDigits(_, bits) => radix(bits),
+        State::Power(m, sign, n) => real(m, exponent(sign, n)),
+        State::Bits(_, bits) => radix(bits),
         _ => Reading::Name,
     }
 }
