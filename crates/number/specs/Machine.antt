@@ -2,7 +2,8 @@
 use mathlib.Core.Bool.{Bool, true, false, cond, _||_, _&&_}
 use Prim.Native.Nat.{ℕ, _+_, _-_, _*_, _^_, _≤_, min}
 use lib.Dec.{eqb, leb, ltb}
-use lib.IntN.{pos, _-ℤ_}
+use lib.IntN.{ℤ, pos, negsuc, _-ℤ_}
+use lib.Signed.{leZ}
 use Rattle.definitions.specs.Bytes.{digit, plus-sign, minus-sign, dot-sign, hash-sign, small-e, capital-e, digit-zero}
 use Rattle.definitions.specs.Numbers.{digit-worth, signed, Reading, integer, name}
 use Rattle.definitions.specs.Readings.{fits?, radix-reading, real-reading}
@@ -72,6 +73,10 @@ dead (Power m s n) = false
 dead (Radix r) = false
 dead (Bits r n) = false
 dead Dead = true
+
+-- k is one that a decimal may have
+abbrev pub in-range : ℤ → Bool
+in-range k = leZ (negsuc 98) k && leZ k (pos 99)
 
 -- what a run is, once all of it was read
 abbrev pub finish-of : State → Reading

@@ -8,7 +8,7 @@ ghost use Rattle.definitions.specs.Bytes.{regular, front};
 ghost use Rattle.definitions.specs.Moves.{«past-class»};
 ghost use Rattle.definitions.specs.Numbers.{signed, settled, Reads};
 ghost use Rattle.definitions.specs.Readings.{«fits?», «radix-reading», «real-reading»};
-ghost use Rattle.number.specs.Machine.{minus, dead, base, «whole-of», «placed-of», «radix-of», «next-of», «finish-of», «In-bounds», Sound};
+ghost use Rattle.number.specs.Machine.{minus, dead, base, «whole-of», «placed-of», «radix-of», «next-of», «in-range», «finish-of», «In-bounds», Sound};
 ghost use Rattle.number.specs.Runs.{«as-reading»};
 use super::decimal::Decimal;
 use super::state::Mantissa;
@@ -197,13 +197,20 @@ fn scale(m: Mantissa, exponent: i64) -> i64
     }
 }
 
+// k is one that a decimal may have.
+fn in_range(k: i64) -> bool
+    ensures { λ r. ⌜ r ≡ in-range k ⌝ }
+{
+    k >= -99 && k <= 99
+}
+
 // A real with this exponent, if it is within its limits.
 fn real(m: Mantissa, exponent: i64) -> Reading
     requires { ⌜ (negℤ (pos (10 ^ 10)) ≤ℤ exponent) × (exponent ≤ℤ pos (10 ^ 10)) ⌝ }
     ensures { λ r. ⌜ as-reading r ≡ real-reading (minus (m .sign)) (m .c) (exponent -ℤ pos (m .places)) ⌝ }
 {
     let k = scale(m, exponent);
-    if k < -99 || k > 99 {
+    if !in_range(k) {
         return Reading::PastLimits;
     }
     match Decimal::new(is_minus(m.sign), m.c, k as i8) {
