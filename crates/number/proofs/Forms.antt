@@ -19,7 +19,7 @@ use Rattle.number.specs.declared.state.Sign.{Sign}
 use Rattle.number.specs.declared.state.Sign.the-variants.{None, Plus, Minus}
 use Rattle.number.specs.declared.state.State.{State}
 use Rattle.number.specs.declared.state.State.the-variants.{Start, Signed, Whole, Dot, Fraction, Exponent, ExponentSign, Power, Radix, Bits, Dead}
-use Rattle.number.specs.Machine.{minus, bare, base, whole-of, longer, placed-of, e-sign, next-of, finish-of}
+use Rattle.number.specs.Machine.{minus, bare, base, whole-of, longer, longer-of, placed-of, e-sign, next-of, finish-of}
 use Rattle.number.proofs.Caps.{capped, radix-cap, c-cap, x-cap, plain, plain-cap}
 
 -- the state after a run
@@ -196,17 +196,17 @@ module _ (s : Sign) (c : ℕ) (bs : List ℕ) (h : length bs ≤ 4294967295) whe
       rw (e, f, g) (dead-got bs ∙ sym (no-radix (base s c) false (radix-reading (value c bs)) name refl))
 
 -- digits without a dot
-whole-run : (s : Sign) (c : ℕ) (bs : List ℕ) → length bs ≤ 4294967295 → got (Whole s (min c (10 ^ 18))) bs ≡ shape s (every digit bs) (value-after 10 c bs) c (front digit bs) (past digit bs)
+whole-run : (s : Sign) (c : ℕ) (bs : List ℕ) → length bs ≤ 4294967295 → got (Whole (mantissa s c 0)) bs ≡ shape s (every digit bs) (value-after 10 c bs) c (front digit bs) (past digit bs)
 whole-run s c [] h =
     plain-cap (minus s) c
     ∙ ap (λ r. cond (fits? (minus s) c) (integer (signed (minus s) c)) r) (sym (no-radix (base s c) false (radix-reading (value c [])) (real-reading (minus s) c (pos 0 -ℤ pos 0)) refl))
 whole-run s c (b ∷ bs) h = step (digit b) refl (whole-run s (c * 10 + digit-worth b) bs (omega arith))
   where
     step : (d : Bool) → digit b ≡ d
-        → got (Whole s (min (c * 10 + digit-worth b) (10 ^ 18))) bs ≡ shape s (every digit bs) (value-after 10 (c * 10 + digit-worth b) bs) (c * 10 + digit-worth b) (front digit bs) (past digit bs)
-        → got (cond d (Whole s (longer (min c (10 ^ 18)) (b - 48))) (cond (eqb b 46) (Fraction (mantissa s c 0)) (cond (e-sign b) (Exponent (mantissa s c 0)) (cond (eqb b 35 && base s (min c (10 ^ 18))) (Radix (min c (10 ^ 18))) Dead)))) bs
+        → got (Whole (mantissa s (c * 10 + digit-worth b) 0)) bs ≡ shape s (every digit bs) (value-after 10 (c * 10 + digit-worth b) bs) (c * 10 + digit-worth b) (front digit bs) (past digit bs)
+        → got (cond d (Whole (longer-of (mantissa s c 0) (b - 48))) (cond (eqb b 46) (Fraction (mantissa s c 0)) (cond (e-sign b) (Exponent (mantissa s c 0)) (cond (eqb b 35 && base s (min c (10 ^ 18))) (Radix (min c (10 ^ 18))) Dead)))) bs
         ≡ shape s (d && every digit bs) (value-after 10 (c * 10 + digit-worth b) bs) c (cond d (b ∷ front digit bs) []) (cond d (past digit bs) (b ∷ bs))
-    step true e ih = ap (λ k. got (Whole s k) bs) (more-digits c (10 ^ 18) b e) ∙ ih
+    step true e ih = ap (λ k. got (Whole (whole-of s k)) bs) (more-digits c (10 ^ 18) b e) ∙ ih
     step false e ih = whole-stop s c bs (omega arith) b (value-after 10 (c * 10 + digit-worth b) bs) (is-it b 46) (e-sign b) refl (is-it b 35)
 
 -- a run without its sign: its digits and the rest; `all` says whether it is digits alone, and then they come to v
@@ -230,8 +230,8 @@ signed-run s (b ∷ bs) h = step (digit b) refl (is-it b 46)
     at-dot = dot-run s bs (omega arith) ∙ sym (no-digits (bare s) (radix-part 0 (46 ∷ bs)) (radix-reading (value 0 bs)) (cond (some (front digit bs) && exponent? (past digit bs)) (real-reading (minus s) (value 10 (front digit bs)) (exponent (past digit bs) -ℤ pos (length (front digit bs)))) name))
 
     step : (d : Bool) → digit b ≡ d → (b ≡ 46) ⊎ (eqb b 46 ≡ false)
-        → got (cond d (Whole s (b - 48)) (cond (eqb b 46) (Dot s) Dead)) bs ≡ body s (d && every digit bs) (value 10 (b ∷ bs)) (cond d (b ∷ front digit bs) []) (cond d (past digit bs) (b ∷ bs))
-    step true e w = ap (λ k. got (Whole s k) bs) (first-digit (10 ^ 18) b (omega arith) e) ∙ whole-run s (0 * 10 + digit-worth b) bs (omega arith)
+        → got (cond d (Whole (whole-of s (b - 48))) (cond (eqb b 46) (Dot s) Dead)) bs ≡ body s (d && every digit bs) (value 10 (b ∷ bs)) (cond d (b ∷ front digit bs) []) (cond d (past digit bs) (b ∷ bs))
+    step true e w = ap (λ k. got (Whole (whole-of s k)) bs) (first-digit (10 ^ 18) b (omega arith) e) ∙ whole-run s (0 * 10 + digit-worth b) bs (omega arith)
     step false e (inl f) = subst Stops (sym f) at-dot
     step false e (inr f) = rw f (dead-got bs ∙ sym (no-digits (bare s) (radix-part 0 (b ∷ bs)) (radix-reading (value 0 bs)) name))
 

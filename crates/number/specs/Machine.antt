@@ -36,6 +36,9 @@ whole-of s c = record { sign = s; c = c; places = 0 }
 abbrev pub longer : ℕ → ℕ → ℕ
 longer c d = min (c * 10 + d) (10 ^ 18)
 
+abbrev pub longer-of : Mantissa → ℕ → Mantissa
+longer-of m d = record { sign = m .sign; c = longer (m .c) d; places = m .places }
+
 -- one digit more after the dot
 abbrev pub placed-of : Mantissa → ℕ → Mantissa
 placed-of m d = record { sign = m .sign; c = longer (m .c) d; places = m .places + 1 }
@@ -49,9 +52,9 @@ radix-of r n b = cond (ltb (digit-worth b) r) (Bits r (min (n * r + digit-worth 
 
 -- one byte more of a run
 abbrev pub next-of : State → ℕ → State
-next-of Start b = cond (eqb b plus-sign) (Signed Plus) (cond (eqb b minus-sign) (Signed Minus) (cond (digit b) (Whole None (b - digit-zero)) (cond (eqb b dot-sign) (Dot None) Dead)))
-next-of (Signed s) b = cond (digit b) (Whole s (b - digit-zero)) (cond (eqb b dot-sign) (Dot s) Dead)
-next-of (Whole s c) b = cond (digit b) (Whole s (longer c (b - digit-zero))) (cond (eqb b dot-sign) (Fraction (whole-of s c)) (cond (e-sign b) (Exponent (whole-of s c)) (cond (eqb b hash-sign && base s c) (Radix c) Dead)))
+next-of Start b = cond (eqb b plus-sign) (Signed Plus) (cond (eqb b minus-sign) (Signed Minus) (cond (digit b) (Whole (whole-of None (b - digit-zero))) (cond (eqb b dot-sign) (Dot None) Dead)))
+next-of (Signed s) b = cond (digit b) (Whole (whole-of s (b - digit-zero))) (cond (eqb b dot-sign) (Dot s) Dead)
+next-of (Whole m) b = cond (digit b) (Whole (longer-of m (b - digit-zero))) (cond (eqb b dot-sign) (Fraction m) (cond (e-sign b) (Exponent m) (cond (eqb b hash-sign && base (m .sign) (m .c)) (Radix (m .c)) Dead)))
 next-of (Dot s) b = cond (digit b) (Fraction (placed-of (whole-of s 0) (b - digit-zero))) Dead
 next-of (Fraction m) b = cond (digit b) (Fraction (placed-of m (b - digit-zero))) (cond (e-sign b) (Exponent m) Dead)
 next-of (Exponent m) b = cond (eqb b plus-sign) (ExponentSign m Plus) (cond (eqb b minus-sign) (ExponentSign m Minus) (cond (digit b) (Power m None (b - digit-zero)) Dead))
@@ -64,7 +67,7 @@ next-of Dead b = Dead
 abbrev pub dead : State → Bool
 dead Start = false
 dead (Signed s) = false
-dead (Whole s c) = false
+dead (Whole m) = false
 dead (Dot s) = false
 dead (Fraction m) = false
 dead (Exponent m) = false
@@ -82,7 +85,7 @@ in-range k = leZ (negsuc 98) k && leZ k (pos 99)
 abbrev pub finish-of : State → Reading
 finish-of Start = name
 finish-of (Signed s) = name
-finish-of (Whole s c) = cond (fits? (minus s) c) (integer (signed (minus s) c)) (real-reading (minus s) c (pos 0 -ℤ pos 0))
+finish-of (Whole m) = cond (fits? (minus (m .sign)) (m .c)) (integer (signed (minus (m .sign)) (m .c))) (real-reading (minus (m .sign)) (m .c) (pos 0 -ℤ pos (m .places)))
 finish-of (Dot s) = name
 finish-of (Fraction m) = real-reading (minus (m .sign)) (m .c) (pos 0 -ℤ pos (m .places))
 finish-of (Exponent m) = name
@@ -101,7 +104,7 @@ pub record In-bounds (left : ℕ) (m : Mantissa) : Type 0 where
 abbrev pub Sound : ℕ → State → Type 0
 Sound left Start = Unit {0}
 Sound left (Signed s) = Unit {0}
-Sound left (Whole s c) = c ≤ 10 ^ 18
+Sound left (Whole m) = In-bounds left m
 Sound left (Dot s) = Unit {0}
 Sound left (Fraction m) = In-bounds left m
 Sound left (Exponent m) = In-bounds left m

@@ -8,7 +8,7 @@ ghost use Rattle.definitions.specs.Bytes.{regular, front};
 ghost use Rattle.definitions.specs.Moves.{«past-class»};
 ghost use Rattle.definitions.specs.Numbers.{signed, settled, Reads};
 ghost use Rattle.definitions.specs.Readings.{«fits?», «radix-reading», «real-reading»};
-ghost use Rattle.number.specs.Machine.{minus, dead, base, «whole-of», «placed-of», «radix-of», «next-of», «in-range», «finish-of», «In-bounds», Sound};
+ghost use Rattle.number.specs.Machine.{minus, dead, base, «whole-of», «longer-of», «placed-of», «radix-of», «next-of», «in-range», «finish-of», «In-bounds», Sound};
 ghost use Rattle.number.specs.Runs.{«as-reading»};
 use super::decimal::Decimal;
 use super::state::Mantissa;
@@ -59,20 +59,33 @@ fn is_minus(sign: Sign) -> bool
 }
 
 // The digits read are a base: without a sign, and from 2 to 36.
-fn is_base(sign: Sign, c: u64) -> bool
-    ensures { λ r. ⌜ r ≡ base sign c ⌝ }
+fn is_base(m: Mantissa) -> bool
+    ensures { λ r. ⌜ r ≡ base (m .sign) (m .c) ⌝ }
 {
-    match sign {
-        Sign::None => c >= 2 && c <= 36,
+    match m.sign {
+        Sign::None => m.c >= 2 && m.c <= 36,
         _ => false,
     }
 }
 
-// Digits without a dot.
-fn whole(sign: Sign, c: u64) -> Mantissa
-    ensures { λ r. ⌜ r ≡ whole-of sign c ⌝ }
+// The first digit of a number.
+fn whole(sign: Sign, digit: u8) -> Mantissa
+    ensures { λ r. ⌜ r ≡ whole-of sign digit ⌝ }
 {
-    Mantissa { sign, c, places: 0 }
+    Mantissa {
+        sign,
+        c: digit as u64,
+        places: 0,
+    }
+}
+
+// One digit more.
+fn with_whole(m: Mantissa, digit: u8) -> Mantissa
+    requires { ⌜ In-bounds 1 m ⌝ }
+    ensures { λ r. ⌜ r ≡ longer-of m digit ⌝ }
+{
+    let c = with_digit(m.c, digit, MOST_DIGITS);
+    Mantissa { c, ..m }
 }
 
 // One digit more after the dot.
@@ -81,11 +94,8 @@ fn with_place(m: Mantissa, digit: u8) -> Mantissa
     ensures { λ r. ⌜ r ≡ placed-of m digit ⌝ }
 {
     let c = with_digit(m.c, digit, MOST_DIGITS);
-    Mantissa {
-        sign: m.sign,
-        c,
-        places: m.places + 1,
-    }
+    let places = m.places + 1;
+    Mantissa { c, places, ..m }
 }
 
 // One byte more after the #: a digit of the base, or no number.
@@ -114,14 +124,14 @@ fn next(state: State, b: u8) -> State
     match (state, b) {
         (State::Start, b'+') => State::Signed(Sign::Plus),
         (State::Start, b'-') => State::Signed(Sign::Minus),
-        (State::Start, b'0'..=b'9') => State::Whole(Sign::None, (b - b'0') as u64),
+        (State::Start, b'0'..=b'9') => State::Whole(whole(Sign::None, b - b'0')),
         (State::Start, b'.') => State::Dot(Sign::None),
-        (State::Signed(s), b'0'..=b'9') => State::Whole(s, (b - b'0') as u64),
+        (State::Signed(s), b'0'..=b'9') => State::Whole(whole(s, b - b'0')),
         (State::Signed(s), b'.') => State::Dot(s),
-        (State::Whole(s, c), b'0'..=b'9') => State::Whole(s, with_digit(c, b - b'0', MOST_DIGITS)),
-        (State::Whole(s, c), b'.') => State::Fraction(whole(s, c)),
-        (State::Whole(s, c), b'e' | b'E') => State::Exponent(whole(s, c)),
-        (State::Whole(s, c), b'#') if is_base(s, c) => State::Radix(c as u8),
+        (State::Whole(m), b'0'..=b'9') => State::Whole(with_whole(m, b - b'0')),
+        (State::Whole(m), b'.') => State::Fraction(m),
+        (State::Whole(m), b'e' | b'E') => State::Exponent(m),
+        (State::Whole(m), b'#') if is_base(m) => State::Radix(m.c as u8),
         (State::Dot(s), b'0'..=b'9') => State::Fraction(with_place(whole(s, 0), b - b'0')),
         (State::Fraction(m), b'0'..=b'9') => State::Fraction(with_place(m, b - b'0')),
         (State::Fraction(m), b'e' | b'E') => State::Exponent(m),
@@ -225,9 +235,9 @@ fn finish(state: State) -> Reading
     ensures { λ r. ⌜ as-reading r ≡ finish-of state ⌝ }
 {
     match state {
-        State::Whole(sign, c) => match integer(sign, c) {
+        State::Whole(m) => match integer(m.sign, m.c) {
             Some(n) => Reading::Integer(n),
-            None => real(whole(sign, c), 0),
+            None => real(m, 0),
         },
         State::Fraction(m) => real(m, 0),
         State::Power(m, sign, n) => real(m, exponent(sign, n)),

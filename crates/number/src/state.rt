@@ -22,7 +22,7 @@ pub enum State {
     Start,
     Signed(Sign),
     // one or more digits
-    Whole(Sign, u64),
+    Whole(Mantissa),
     // a dot, and no digit yet
     Dot(Sign),
     // a dot, and digits before or after it
