@@ -7,12 +7,14 @@ use native.Mathlib.Nat.{min-eq-left, min-eq-right}
 use native.Mathlib.Omega.{arith}
 use lib.Dec.{leb, ltb}
 use lib.IntN.{ℤ, pos, negsuc, _-ℤ_}
-use lib.Signed.{leZ, _≤ℤ_, _<ℤ_}
+use lib.Signed.{leZ, leZ-yes}
 use Rattle.std.proofs.shelf.Bits.{mul-le}
 use Rattle.std.proofs.shelf.Signed.{ints}
-use Rattle.std.proofs.shelf.Tests.{cases-lt, le-ltb, lt-ltb, lt-leb, and-left, and-right}
+use Rattle.std.proofs.shelf.Tests.{cases-lt, le-ltb, lt-ltb, lt-leb, and-parts, and-from, and-left, and-right}
 use Rattle.definitions.specs.Numbers.{signed, settled, Reading, integer, real, past-limits, Decimal}
 use Rattle.definitions.specs.Readings.{fits?, decimal?, radix-reading, real-reading}
+use Rattle.definitions.proofs.Bytes.{T-from}
+use Rattle.number.specs.Machine.{in-range}
 
 -- one digit more
 pub capped : (n most b d : ℕ) → 1 ≤ b → min (min n most * b + d) most ≡ min (n * b + d) most
@@ -80,26 +82,20 @@ plain-cap m c = step (cases-lt c (10 ^ 18))
     step (inr l) = ap (plain m) (min-eq-right l) ∙ too-large m (10 ^ 18) (omega arith) ∙ sym (too-large m c l)
 
 -- what a decimal's limits say of its reading
-pub too-low : (m : Bool) (c : ℕ) (x k : ℤ) → k ≡ settled c x → k <ℤ negsuc 98 → past-limits ≡ real-reading m c x
-too-low m c x k e h =
-    let g : leZ (negsuc 98) k ≡ false = grind (arith, ints) in
-    past-by m c x k e (and-right (ltb c (10 ^ 18)) (leZ (negsuc 98) k && leZ k (pos 99)) (and-left (leZ (negsuc 98) k) (leZ k (pos 99)) g))
+module _ (m : Bool) (c : ℕ) (x k : ℤ) (e : k ≡ settled c x) where
+  pub out-of-range : in-range k ≡ false → past-limits ≡ real-reading m c x
+  out-of-range h = past-by m c x k e (and-right (ltb c (10 ^ 18)) (in-range k) h)
 
-pub too-high : (m : Bool) (c : ℕ) (x k : ℤ) → k ≡ settled c x → pos 99 <ℤ k → past-limits ≡ real-reading m c x
-too-high m c x k e h =
-    let g : leZ k (pos 99) ≡ false = grind (arith, ints) in
-    past-by m c x k e (and-right (ltb c (10 ^ 18)) (leZ (negsuc 98) k && leZ k (pos 99)) (and-right (leZ (negsuc 98) k) (leZ k (pos 99)) g))
+  pub no-decimal : in-range k ≡ true → (Decimal c k → ⊥) → past-limits ≡ real-reading m c x
+  no-decimal h f = step (cases-lt c (10 ^ 18))
+    where
+      step : (c < 10 ^ 18) ⊎ (10 ^ 18 ≤ c) → past-limits ≡ real-reading m c x
+      step (inl l) =
+          let (p, q) = and-parts (leZ (negsuc 98) k) (leZ k (pos 99)) h in
+          absurd (f (record { digits = l; low = leZ-yes (T-from (leZ (negsuc 98) k) p); high = leZ-yes (T-from (leZ k (pos 99)) q); zero-plain = λ z. e ∙ ap (λ n. settled n x) z }))
+      step (inr l) = sym (too-long m c x l)
 
-pub no-decimal : (m : Bool) (c : ℕ) (x k : ℤ) → k ≡ settled c x → negsuc 98 ≤ℤ k → k ≤ℤ pos 99 → (Decimal c k → ⊥) → past-limits ≡ real-reading m c x
-no-decimal m c x k e low high f = step (cases-lt c (10 ^ 18))
-  where
-    step : (c < 10 ^ 18) ⊎ (10 ^ 18 ≤ c) → past-limits ≡ real-reading m c x
-    step (inl l) = absurd (f (record { digits = l; low = low; high = high; zero-plain = λ z. e ∙ ap (λ n. settled n x) z }))
-    step (inr l) = sym (too-long m c x l)
-
-pub a-decimal : (m : Bool) (c : ℕ) (x k : ℤ) → k ≡ settled c x → c < 10 ^ 18 → negsuc 98 ≤ℤ k → k ≤ℤ pos 99 → real m c k ≡ real-reading m c x
-a-decimal m c x k e l low high =
-    let p : leZ (negsuc 98) k ≡ true = grind (arith, ints) in
-    let q : leZ k (pos 99) ≡ true = grind (arith, ints) in
-    let d : decimal? c k ≡ true = rw (lt-ltb c (10 ^ 18) l, p, q) in
-    ap (real m c) e ∙ sym (ap (λ t. cond t (real m c (settled c x)) past-limits) (ap (decimal? c) (sym e) ∙ d))
+  pub a-decimal : in-range k ≡ true → c < 10 ^ 18 → real m c k ≡ real-reading m c x
+  a-decimal h l =
+      let d : decimal? c k ≡ true = and-from (ltb c (10 ^ 18)) (in-range k) (lt-ltb c (10 ^ 18) l) h in
+      ap (real m c) e ∙ sym (ap (λ t. cond t (real m c (settled c x)) past-limits) (ap (decimal? c) (sym e) ∙ d))

@@ -18,8 +18,8 @@ use Rattle.number.specs.declared.state.Mantissa.{Mantissa}
 use Rattle.number.specs.declared.state.Sign.{Sign}
 use Rattle.number.specs.declared.state.Sign.the-variants.{None, Plus, Minus}
 use Rattle.number.specs.declared.state.State.{State}
-use Rattle.number.specs.declared.state.State.the-variants.{Start, Signed, Whole, Dot, Fraction, Exponent, ExponentSign, ExponentDigits, Radix, RadixDigits, Dead}
-use Rattle.number.specs.Machine.{minus, bare, base, whole-of, longer, placed-of, e-sign, next-of, finish-of}
+use Rattle.number.specs.declared.state.State.the-variants.{Start, Signed, Whole, Dot, Fraction, Exponent, ExponentSign, Power, Radix, Bits, Dead}
+use Rattle.number.specs.Machine.{minus, bare, base, whole-of, longer, longer-of, placed-of, e-sign, next-of, finish-of}
 use Rattle.number.proofs.Caps.{capped, radix-cap, c-cap, x-cap, plain, plain-cap}
 
 -- the state after a run
@@ -52,26 +52,19 @@ more-digits : (n most b : ℕ) → digit b ≡ true → min (min n most * 10 + (
 more-digits n most b e = capped n most 10 (b - 48) (omega arith) ∙ ap (λ d. min (n * 10 + d) most) (sym (worth b e .0))
 
 -- a radix number
-radix-digits : (r n : ℕ) (bs : List ℕ) → got (RadixDigits r (min n (2 ^ 32))) bs ≡ cond (every (λ b. ltb (digit-worth b) r) bs) (radix-reading (value-after r n bs)) name
+radix-digits : (r n : ℕ) (bs : List ℕ) → got (Bits r (min n (2 ^ 32))) bs ≡ cond (every (λ b. ltb (digit-worth b) r) bs) (radix-reading (value-after r n bs)) name
 radix-digits r n [] = radix-cap n
 radix-digits r n (b ∷ bs) = step (ltb (digit-worth b) r) refl (radix-digits r (n * r + digit-worth b) bs)
   where
     step : (t : Bool) → ltb (digit-worth b) r ≡ t
-        → got (RadixDigits r (min (n * r + digit-worth b) (2 ^ 32))) bs ≡ cond (every (λ b. ltb (digit-worth b) r) bs) (radix-reading (value-after r (n * r + digit-worth b) bs)) name
-        → got (cond t (RadixDigits r (min (min n (2 ^ 32) * r + digit-worth b) (2 ^ 32))) Dead) bs ≡ cond (t && every (λ b. ltb (digit-worth b) r) bs) (radix-reading (value-after r (n * r + digit-worth b) bs)) name
-    step true e ih = ap (λ k. got (RadixDigits r k) bs) (capped n (2 ^ 32) r (digit-worth b) (omega (arith, ltb-true (digit-worth b) r e))) ∙ ih
+        → got (Bits r (min (n * r + digit-worth b) (2 ^ 32))) bs ≡ cond (every (λ b. ltb (digit-worth b) r) bs) (radix-reading (value-after r (n * r + digit-worth b) bs)) name
+        → got (cond t (Bits r (min (min n (2 ^ 32) * r + digit-worth b) (2 ^ 32))) Dead) bs ≡ cond (t && every (λ b. ltb (digit-worth b) r) bs) (radix-reading (value-after r (n * r + digit-worth b) bs)) name
+    step true e ih = ap (λ k. got (Bits r k) bs) (capped n (2 ^ 32) r (digit-worth b) (omega (arith, ltb-true (digit-worth b) r e))) ∙ ih
     step false e ih = dead-got bs
 
-radix-run : (r : ℕ) (bs : List ℕ) → r ≤ 36 → got (Radix r) bs ≡ cond (some bs && every (λ b. ltb (digit-worth b) r) bs) (radix-reading (value r bs)) name
-radix-run r [] h = refl
-radix-run r (b ∷ bs) h = step (ltb (digit-worth b) r) refl
-  where
-    step : (t : Bool) → ltb (digit-worth b) r ≡ t → got (cond t (RadixDigits r (digit-worth b)) Dead) bs ≡ cond (t && every (λ b. ltb (digit-worth b) r) bs) (radix-reading (value-after r (0 * r + digit-worth b) bs)) name
-    step true e =
-        let l = ltb-true (digit-worth b) r e in
-        let q : digit-worth b ≡ min (0 * r + digit-worth b) (2 ^ 32) = omega arith in
-        ap (λ k. got (RadixDigits r k) bs) q ∙ radix-digits r (0 * r + digit-worth b) bs
-    step false e = dead-got bs
+radix-run : (r : ℕ) (bs : List ℕ) → got (Radix r) bs ≡ cond (some bs && every (λ b. ltb (digit-worth b) r) bs) (radix-reading (value r bs)) name
+radix-run r [] = refl
+radix-run r (b ∷ bs) = radix-digits r 0 (b ∷ bs)
 
 -- digits that came to c, p of them after the dot
 abbrev mantissa : Sign → ℕ → ℕ → Mantissa
@@ -82,22 +75,22 @@ module _ (s : Sign) (c p : ℕ) where
   abbrev valued : ℤ → Reading
   valued x = real-reading (minus s) c (x -ℤ pos p)
 
-  exponent-digits : (t : Sign) (n : ℕ) (bs : List ℕ) → p ≤ 4294967295 → got (ExponentDigits (mantissa s c p) t (min n (10 ^ 10))) bs ≡ cond (every digit bs) (valued (signed (minus t) (value-after 10 n bs))) name
+  exponent-digits : (t : Sign) (n : ℕ) (bs : List ℕ) → p ≤ 4294967295 → got (Power (mantissa s c p) t (min n (10 ^ 10))) bs ≡ cond (every digit bs) (valued (signed (minus t) (value-after 10 n bs))) name
   exponent-digits t n [] h = c-cap (minus s) c (signed (minus t) (min n (10 ^ 10)) -ℤ pos p) ∙ x-cap (minus s) (minus t) c n p h
   exponent-digits t n (b ∷ bs) h = step (digit b) refl (exponent-digits t (n * 10 + digit-worth b) bs h)
     where
       step : (d : Bool) → digit b ≡ d
-          → got (ExponentDigits (mantissa s c p) t (min (n * 10 + digit-worth b) (10 ^ 10))) bs ≡ cond (every digit bs) (valued (signed (minus t) (value-after 10 (n * 10 + digit-worth b) bs))) name
-          → got (cond d (ExponentDigits (mantissa s c p) t (min (min n (10 ^ 10) * 10 + (b - 48)) (10 ^ 10))) Dead) bs ≡ cond (d && every digit bs) (valued (signed (minus t) (value-after 10 (n * 10 + digit-worth b) bs))) name
-      step true e ih = ap (λ k. got (ExponentDigits (mantissa s c p) t k) bs) (more-digits n (10 ^ 10) b e) ∙ ih
+          → got (Power (mantissa s c p) t (min (n * 10 + digit-worth b) (10 ^ 10))) bs ≡ cond (every digit bs) (valued (signed (minus t) (value-after 10 (n * 10 + digit-worth b) bs))) name
+          → got (cond d (Power (mantissa s c p) t (min (min n (10 ^ 10) * 10 + (b - 48)) (10 ^ 10))) Dead) bs ≡ cond (d && every digit bs) (valued (signed (minus t) (value-after 10 (n * 10 + digit-worth b) bs))) name
+      step true e ih = ap (λ k. got (Power (mantissa s c p) t k) bs) (more-digits n (10 ^ 10) b e) ∙ ih
       step false e ih = dead-got bs
 
   exponent-sign : (t : Sign) (bs : List ℕ) → p ≤ 4294967295 → got (ExponentSign (mantissa s c p) t) bs ≡ cond (digits? bs) (valued (signed (minus t) (value 10 bs))) name
   exponent-sign t [] h = refl
   exponent-sign t (b ∷ bs) h = step (digit b) refl
     where
-      step : (d : Bool) → digit b ≡ d → got (cond d (ExponentDigits (mantissa s c p) t (b - 48)) Dead) bs ≡ cond (d && every digit bs) (valued (signed (minus t) (value-after 10 (0 * 10 + digit-worth b) bs))) name
-      step true e = ap (λ k. got (ExponentDigits (mantissa s c p) t k) bs) (first-digit (10 ^ 10) b (omega arith) e) ∙ exponent-digits t (0 * 10 + digit-worth b) bs h
+      step : (d : Bool) → digit b ≡ d → got (cond d (Power (mantissa s c p) t (b - 48)) Dead) bs ≡ cond (d && every digit bs) (valued (signed (minus t) (value-after 10 (0 * 10 + digit-worth b) bs))) name
+      step true e = ap (λ k. got (Power (mantissa s c p) t k) bs) (first-digit (10 ^ 10) b (omega arith) e) ∙ exponent-digits t (0 * 10 + digit-worth b) bs h
       step false e = dead-got bs
 
   exponent-run : (bs : List ℕ) → p ≤ 4294967295 → got (Exponent (mantissa s c p)) bs ≡ cond (digits? (unsigned bs)) (valued (signed (first-is 45 bs) (value 10 (unsigned bs)))) name
@@ -186,7 +179,7 @@ module _ (s : Sign) (c : ℕ) (bs : List ℕ) (h : length bs ≤ 4294967295) whe
   whole-hash v true e =
       let l : c ≤ 36 = leb-true c 36 (and-parts (leb 2 c) (leb c 36) (and-parts (bare s) (leb 2 c && leb c 36) e .1) .1) in
       let q : c ≤ 10 ^ 18 = omega arith in
-      ap (λ k. got (Radix k) bs) (min-eq-left q) ∙ radix-run c bs l
+      ap (λ k. got (Radix k) bs) (min-eq-left q) ∙ radix-run c bs
   whole-hash v false e = dead-got bs
 
   -- any other byte
@@ -203,17 +196,17 @@ module _ (s : Sign) (c : ℕ) (bs : List ℕ) (h : length bs ≤ 4294967295) whe
       rw (e, f, g) (dead-got bs ∙ sym (no-radix (base s c) false (radix-reading (value c bs)) name refl))
 
 -- digits without a dot
-whole-run : (s : Sign) (c : ℕ) (bs : List ℕ) → length bs ≤ 4294967295 → got (Whole s (min c (10 ^ 18))) bs ≡ shape s (every digit bs) (value-after 10 c bs) c (front digit bs) (past digit bs)
+whole-run : (s : Sign) (c : ℕ) (bs : List ℕ) → length bs ≤ 4294967295 → got (Whole (mantissa s c 0)) bs ≡ shape s (every digit bs) (value-after 10 c bs) c (front digit bs) (past digit bs)
 whole-run s c [] h =
     plain-cap (minus s) c
     ∙ ap (λ r. cond (fits? (minus s) c) (integer (signed (minus s) c)) r) (sym (no-radix (base s c) false (radix-reading (value c [])) (real-reading (minus s) c (pos 0 -ℤ pos 0)) refl))
 whole-run s c (b ∷ bs) h = step (digit b) refl (whole-run s (c * 10 + digit-worth b) bs (omega arith))
   where
     step : (d : Bool) → digit b ≡ d
-        → got (Whole s (min (c * 10 + digit-worth b) (10 ^ 18))) bs ≡ shape s (every digit bs) (value-after 10 (c * 10 + digit-worth b) bs) (c * 10 + digit-worth b) (front digit bs) (past digit bs)
-        → got (cond d (Whole s (longer (min c (10 ^ 18)) (b - 48))) (cond (eqb b 46) (Fraction (mantissa s c 0)) (cond (e-sign b) (Exponent (mantissa s c 0)) (cond (eqb b 35 && base s (min c (10 ^ 18))) (Radix (min c (10 ^ 18))) Dead)))) bs
+        → got (Whole (mantissa s (c * 10 + digit-worth b) 0)) bs ≡ shape s (every digit bs) (value-after 10 (c * 10 + digit-worth b) bs) (c * 10 + digit-worth b) (front digit bs) (past digit bs)
+        → got (cond d (Whole (longer-of (mantissa s c 0) (b - 48))) (cond (eqb b 46) (Fraction (mantissa s c 0)) (cond (e-sign b) (Exponent (mantissa s c 0)) (cond (eqb b 35 && base s (min c (10 ^ 18))) (Radix (min c (10 ^ 18))) Dead)))) bs
         ≡ shape s (d && every digit bs) (value-after 10 (c * 10 + digit-worth b) bs) c (cond d (b ∷ front digit bs) []) (cond d (past digit bs) (b ∷ bs))
-    step true e ih = ap (λ k. got (Whole s k) bs) (more-digits c (10 ^ 18) b e) ∙ ih
+    step true e ih = ap (λ k. got (Whole (whole-of s k)) bs) (more-digits c (10 ^ 18) b e) ∙ ih
     step false e ih = whole-stop s c bs (omega arith) b (value-after 10 (c * 10 + digit-worth b) bs) (is-it b 46) (e-sign b) refl (is-it b 35)
 
 -- a run without its sign: its digits and the rest; `all` says whether it is digits alone, and then they come to v
@@ -237,8 +230,8 @@ signed-run s (b ∷ bs) h = step (digit b) refl (is-it b 46)
     at-dot = dot-run s bs (omega arith) ∙ sym (no-digits (bare s) (radix-part 0 (46 ∷ bs)) (radix-reading (value 0 bs)) (cond (some (front digit bs) && exponent? (past digit bs)) (real-reading (minus s) (value 10 (front digit bs)) (exponent (past digit bs) -ℤ pos (length (front digit bs)))) name))
 
     step : (d : Bool) → digit b ≡ d → (b ≡ 46) ⊎ (eqb b 46 ≡ false)
-        → got (cond d (Whole s (b - 48)) (cond (eqb b 46) (Dot s) Dead)) bs ≡ body s (d && every digit bs) (value 10 (b ∷ bs)) (cond d (b ∷ front digit bs) []) (cond d (past digit bs) (b ∷ bs))
-    step true e w = ap (λ k. got (Whole s k) bs) (first-digit (10 ^ 18) b (omega arith) e) ∙ whole-run s (0 * 10 + digit-worth b) bs (omega arith)
+        → got (cond d (Whole (whole-of s (b - 48))) (cond (eqb b 46) (Dot s) Dead)) bs ≡ body s (d && every digit bs) (value 10 (b ∷ bs)) (cond d (b ∷ front digit bs) []) (cond d (past digit bs) (b ∷ bs))
+    step true e w = ap (λ k. got (Whole (whole-of s k)) bs) (first-digit (10 ^ 18) b (omega arith) e) ∙ whole-run s (0 * 10 + digit-worth b) bs (omega arith)
     step false e (inl f) = subst Stops (sym f) at-dot
     step false e (inr f) = rw f (dead-got bs ∙ sym (no-digits (bare s) (radix-part 0 (b ∷ bs)) (radix-reading (value 0 bs)) name))
 

@@ -7,7 +7,7 @@ use native.Mathlib.Nat.{min-le-right}
 use native.Mathlib.Omega.{arith}
 use lib.Dec.{eqb, leb, ltb}
 use lib.ListN.{length}
-use Rattle.std.proofs.shelf.Tests.{ltb-true, leb-true, and-parts, cond-both}
+use Rattle.std.proofs.shelf.Tests.{leb-true, and-parts, cond-both}
 use Rattle.std.specs.declared.option.Option.the-variants.{Some, None as Nothing}
 use Rattle.definitions.specs.Bytes.{digit, regular, front}
 use Rattle.definitions.specs.Moves.{first, rest}
@@ -18,8 +18,8 @@ use Rattle.number.specs.declared.state.Mantissa.{Mantissa}
 use Rattle.number.specs.declared.state.Sign.{Sign}
 use Rattle.number.specs.declared.state.Sign.the-variants.{None, Plus, Minus}
 use Rattle.number.specs.declared.state.State.{State}
-use Rattle.number.specs.declared.state.State.the-variants.{Start, Signed, Whole, Dot, Fraction, Exponent, ExponentSign, ExponentDigits, Radix, RadixDigits, Dead}
-use Rattle.number.specs.Machine.{base, bare, whole-of, longer, placed-of, e-sign, next-of, finish-of, dead, In-bounds, Sound}
+use Rattle.number.specs.declared.state.State.the-variants.{Start, Signed, Whole, Dot, Fraction, Exponent, ExponentSign, Power, Radix, Bits, Dead}
+use Rattle.number.specs.Machine.{base, whole-of, longer-of, placed-of, e-sign, radix-of, next-of, finish-of, dead, In-bounds, Sound}
 use Rattle.number.proofs.Forms.{run-of, dead-run, start-run}
 
 fewer : {m n : ℕ} {d : Mantissa} → m ≤ n → In-bounds n d → In-bounds m d
@@ -29,14 +29,14 @@ fewer h b = record { c = b .c; places = omega arith }
 pub sound-less : (m n : ℕ) (s : State) → m ≤ n → Sound n s → Sound m s
 sound-less m n Start h k = tt
 sound-less m n (Signed s) h k = tt
-sound-less m n (Whole s c) h k = k
+sound-less m n (Whole d) h k = fewer h k
 sound-less m n (Dot s) h k = tt
 sound-less m n (Fraction d) h k = fewer h k
 sound-less m n (Exponent d) h k = fewer h k
 sound-less m n (ExponentSign d s) h k = fewer h k
-sound-less m n (ExponentDigits d s x) h k = (fewer h (k .0), k .1)
+sound-less m n (Power d s x) h k = (fewer h (k .0), k .1)
 sound-less m n (Radix r) h k = k
-sound-less m n (RadixDigits r x) h k = k
+sound-less m n (Bits r x) h k = k
 sound-less m n Dead h k = tt
 
 -- one of two states
@@ -53,29 +53,33 @@ one-place : (n d : ℕ) (m : Mantissa) → In-bounds (suc n) m → In-bounds n (
 one-place n d m h = record { c = min-le-right (m .c * 10 + d) (10 ^ 18); places = omega (arith, h .places) }
 
 -- after one byte more, each where a sign may stand before the digits
-sound-signed : (n : ℕ) (s : Sign) (b : ℕ) → Sound n (next-of (Signed s) b)
-sound-signed n s b = either n (digit b) (Whole s (b - 48)) (cond (eqb b 46) (Dot s) Dead) (λ e. omega (arith, small b e)) (λ e. either n (eqb b 46) (Dot s) Dead (λ e. tt) (λ e. tt))
+sound-signed : (n : ℕ) (s : Sign) (b : ℕ) → n < 4294967295 → Sound n (next-of (Signed s) b)
+sound-signed n s b l =
+    either n (digit b) (Whole (whole-of s (b - 48))) (cond (eqb b 46) (Dot s) Dead) (λ e. no-places n s (b - 48) (omega (arith, small b e)) (omega arith))
+    (λ e. either n (eqb b 46) (Dot s) Dead (λ e. tt) (λ e. tt))
 
 sound-exponent : (n : ℕ) (m : Mantissa) (s : Sign) (b : ℕ) → In-bounds (suc n) m → Sound n (next-of (ExponentSign m s) b)
-sound-exponent n m s b h = either n (digit b) (ExponentDigits m s (b - 48)) Dead (λ e. (fewer (omega arith) h, omega (arith, small b e))) (λ e. tt)
+sound-exponent n m s b h = either n (digit b) (Power m s (b - 48)) Dead (λ e. (fewer (omega arith) h, omega (arith, small b e))) (λ e. tt)
 
-sound-whole : (n : ℕ) (s : Sign) (c b : ℕ) → n < 4294967295 → c ≤ 10 ^ 18 → Sound n (next-of (Whole s c) b)
-sound-whole n s c b l h =
-    let hash = cond (eqb b 35 && base s c) (Radix c) Dead in
-    let power = cond (e-sign b) (Exponent (whole-of s c)) hash in
-    either n (digit b) (Whole s (longer c (b - 48))) (cond (eqb b 46) (Fraction (whole-of s c)) power) (λ e. min-le-right (c * 10 + (b - 48)) (10 ^ 18))
-    (λ e. either n (eqb b 46) (Fraction (whole-of s c)) power (λ e. no-places n s c h (omega arith))
-    (λ e. either n (e-sign b) (Exponent (whole-of s c)) hash (λ e. no-places n s c h (omega arith))
-    (λ e. either n (eqb b 35 && base s c) (Radix c) Dead
-    (λ e. leb-true c 36 (and-parts (leb 2 c) (leb c 36) (and-parts (bare s) (leb 2 c && leb c 36) (and-parts (eqb b 35) (base s c) e .1) .1) .1)) (λ e. tt))))
+sound-whole : (n : ℕ) (m : Mantissa) (b : ℕ) → In-bounds (suc n) m → Sound n (next-of (Whole m) b)
+sound-whole n m b h =
+    let hash = cond (eqb b 35 && base (m .sign) (m .c)) (Radix (m .c)) Dead in
+    let power = cond (e-sign b) (Exponent m) hash in
+    either n (digit b) (Whole (longer-of m (b - 48))) (cond (eqb b 46) (Fraction m) power) (λ e. record { c = min-le-right (m .c * 10 + (b - 48)) (10 ^ 18); places = omega (arith, h .places) })
+    (λ e. either n (eqb b 46) (Fraction m) power (λ e. fewer (omega arith) h)
+    (λ e. either n (e-sign b) (Exponent m) hash (λ e. fewer (omega arith) h)
+    (λ e. either n (eqb b 35 && base (m .sign) (m .c)) (Radix (m .c)) Dead (λ e. tt) (λ e. tt))))
+
+sound-radix : (n r x b : ℕ) → Sound n (radix-of r x b)
+sound-radix n r x b = either n (ltb (digit-worth b) r) (Bits r (min (x * r + digit-worth b) (2 ^ 32))) Dead (λ e. min-le-right (x * r + digit-worth b) (2 ^ 32)) (λ e. tt)
 
 -- after one byte more
 sound-next : (n : ℕ) (s : State) (b : ℕ) → n < 4294967295 → Sound (suc n) s → Sound n (next-of s b)
 sound-next n Start b l h =
     let digits = next-of (Signed None) b in
-    either n (eqb b 43) (Signed Plus) (cond (eqb b 45) (Signed Minus) digits) (λ e. tt) (λ e. either n (eqb b 45) (Signed Minus) digits (λ e. tt) (λ e. sound-signed n None b))
-sound-next n (Signed s) b l h = sound-signed n s b
-sound-next n (Whole s c) b l h = sound-whole n s c b l h
+    either n (eqb b 43) (Signed Plus) (cond (eqb b 45) (Signed Minus) digits) (λ e. tt) (λ e. either n (eqb b 45) (Signed Minus) digits (λ e. tt) (λ e. sound-signed n None b l))
+sound-next n (Signed s) b l h = sound-signed n s b l
+sound-next n (Whole m) b l h = sound-whole n m b h
 sound-next n (Dot s) b l h = either n (digit b) (Fraction (placed-of (whole-of s 0) (b - 48))) Dead (λ e. one-place n (b - 48) (whole-of s 0) (no-places (suc n) s 0 (omega arith) (omega arith))) (λ e. tt)
 sound-next n (Fraction m) b l h = either n (digit b) (Fraction (placed-of m (b - 48))) (cond (e-sign b) (Exponent m) Dead) (λ e. one-place n (b - 48) m h) (λ e. either n (e-sign b) (Exponent m) Dead (λ e. fewer (omega arith) h) (λ e. tt))
 sound-next n (Exponent m) b l h =
@@ -83,9 +87,9 @@ sound-next n (Exponent m) b l h =
     either n (eqb b 43) (ExponentSign m Plus) (cond (eqb b 45) (ExponentSign m Minus) digits) (λ e. fewer (omega arith) h)
     (λ e. either n (eqb b 45) (ExponentSign m Minus) digits (λ e. fewer (omega arith) h) (λ e. sound-exponent n m None b h))
 sound-next n (ExponentSign m s) b l h = sound-exponent n m s b h
-sound-next n (ExponentDigits m s x) b l h = either n (digit b) (ExponentDigits m s (min (x * 10 + (b - 48)) (10 ^ 10))) Dead (λ e. (fewer (omega arith) (h .0), min-le-right (x * 10 + (b - 48)) (10 ^ 10))) (λ e. tt)
-sound-next n (Radix r) b l h = either n (ltb (digit-worth b) r) (RadixDigits r (digit-worth b)) Dead (λ e. (h, omega (arith, ltb-true (digit-worth b) r e))) (λ e. tt)
-sound-next n (RadixDigits r x) b l h = either n (ltb (digit-worth b) r) (RadixDigits r (min (x * r + digit-worth b) (2 ^ 32))) Dead (λ e. (h .0, min-le-right (x * r + digit-worth b) (2 ^ 32))) (λ e. tt)
+sound-next n (Power m s x) b l h = either n (digit b) (Power m s (min (x * 10 + (b - 48)) (10 ^ 10))) Dead (λ e. (fewer (omega arith) (h .0), min-le-right (x * 10 + (b - 48)) (10 ^ 10))) (λ e. tt)
+sound-next n (Radix r) b l h = sound-radix n r 0 b
+sound-next n (Bits r x) b l h = sound-radix n r x b
 sound-next n Dead b l h = tt
 
 pub sound-byte : (b : ℕ) (bs : List ℕ) (s : State) → Some b ≡ first bs → length bs ≤ 4294967295 → Sound (length bs) s → Sound (length (rest bs)) (next-of s b)
@@ -110,14 +114,14 @@ at-other b (x ∷ bs) s e h = let q : x ≡ b = cc in rw (q, h)
 pub at-dead : (bs : List ℕ) (s : State) → dead s ≡ true → run-of s bs ≡ s
 at-dead bs Start e = grind arith
 at-dead bs (Signed s) e = grind arith
-at-dead bs (Whole s c) e = grind arith
+at-dead bs (Whole m) e = grind arith
 at-dead bs (Dot s) e = grind arith
 at-dead bs (Fraction m) e = grind arith
 at-dead bs (Exponent m) e = grind arith
 at-dead bs (ExponentSign m s) e = grind arith
-at-dead bs (ExponentDigits m s n) e = grind arith
+at-dead bs (Power m s n) e = grind arith
 at-dead bs (Radix r) e = grind arith
-at-dead bs (RadixDigits r n) e = grind arith
+at-dead bs (Bits r n) e = grind arith
 at-dead bs Dead e = dead-run bs
 
 front-shorter : (c : ℕ → Bool) (bs : List ℕ) → length (front c bs) ≤ length bs

@@ -2,7 +2,8 @@
 use mathlib.Core.Bool.{Bool, true, false, cond, _||_, _&&_}
 use Prim.Native.Nat.{ℕ, _+_, _-_, _*_, _^_, _≤_, min}
 use lib.Dec.{eqb, leb, ltb}
-use lib.IntN.{pos, _-ℤ_}
+use lib.IntN.{ℤ, pos, negsuc, _-ℤ_}
+use lib.Signed.{leZ}
 use Rattle.definitions.specs.Bytes.{digit, plus-sign, minus-sign, dot-sign, hash-sign, small-e, capital-e, digit-zero}
 use Rattle.definitions.specs.Numbers.{digit-worth, signed, Reading, integer, name}
 use Rattle.definitions.specs.Readings.{fits?, radix-reading, real-reading}
@@ -10,7 +11,7 @@ use Rattle.number.specs.declared.state.Mantissa.{Mantissa}
 use Rattle.number.specs.declared.state.Sign.{Sign}
 use Rattle.number.specs.declared.state.Sign.the-variants.{None, Plus, Minus}
 use Rattle.number.specs.declared.state.State.{State}
-use Rattle.number.specs.declared.state.State.the-variants.{Start, Signed, Whole, Dot, Fraction, Exponent, ExponentSign, ExponentDigits, Radix, RadixDigits, Dead}
+use Rattle.number.specs.declared.state.State.the-variants.{Start, Signed, Whole, Dot, Fraction, Exponent, ExponentSign, Power, Radix, Bits, Dead}
 
 abbrev pub minus : Sign → Bool
 minus None = false
@@ -35,6 +36,9 @@ whole-of s c = record { sign = s; c = c; places = 0 }
 abbrev pub longer : ℕ → ℕ → ℕ
 longer c d = min (c * 10 + d) (10 ^ 18)
 
+abbrev pub longer-of : Mantissa → ℕ → Mantissa
+longer-of m d = record { sign = m .sign; c = longer (m .c) d; places = m .places }
+
 -- one digit more after the dot
 abbrev pub placed-of : Mantissa → ℕ → Mantissa
 placed-of m d = record { sign = m .sign; c = longer (m .c) d; places = m .places + 1 }
@@ -42,45 +46,53 @@ placed-of m d = record { sign = m .sign; c = longer (m .c) d; places = m .places
 abbrev pub e-sign : ℕ → Bool
 e-sign b = eqb b small-e || eqb b capital-e
 
+-- one byte more after a base and #; from 2 ^ 32 on no number is told apart from another
+abbrev pub radix-of : ℕ → ℕ → ℕ → State
+radix-of r n b = cond (ltb (digit-worth b) r) (Bits r (min (n * r + digit-worth b) (2 ^ 32))) Dead
+
 -- one byte more of a run
 abbrev pub next-of : State → ℕ → State
-next-of Start b = cond (eqb b plus-sign) (Signed Plus) (cond (eqb b minus-sign) (Signed Minus) (cond (digit b) (Whole None (b - digit-zero)) (cond (eqb b dot-sign) (Dot None) Dead)))
-next-of (Signed s) b = cond (digit b) (Whole s (b - digit-zero)) (cond (eqb b dot-sign) (Dot s) Dead)
-next-of (Whole s c) b = cond (digit b) (Whole s (longer c (b - digit-zero))) (cond (eqb b dot-sign) (Fraction (whole-of s c)) (cond (e-sign b) (Exponent (whole-of s c)) (cond (eqb b hash-sign && base s c) (Radix c) Dead)))
+next-of Start b = cond (eqb b plus-sign) (Signed Plus) (cond (eqb b minus-sign) (Signed Minus) (cond (digit b) (Whole (whole-of None (b - digit-zero))) (cond (eqb b dot-sign) (Dot None) Dead)))
+next-of (Signed s) b = cond (digit b) (Whole (whole-of s (b - digit-zero))) (cond (eqb b dot-sign) (Dot s) Dead)
+next-of (Whole m) b = cond (digit b) (Whole (longer-of m (b - digit-zero))) (cond (eqb b dot-sign) (Fraction m) (cond (e-sign b) (Exponent m) (cond (eqb b hash-sign && base (m .sign) (m .c)) (Radix (m .c)) Dead)))
 next-of (Dot s) b = cond (digit b) (Fraction (placed-of (whole-of s 0) (b - digit-zero))) Dead
 next-of (Fraction m) b = cond (digit b) (Fraction (placed-of m (b - digit-zero))) (cond (e-sign b) (Exponent m) Dead)
-next-of (Exponent m) b = cond (eqb b plus-sign) (ExponentSign m Plus) (cond (eqb b minus-sign) (ExponentSign m Minus) (cond (digit b) (ExponentDigits m None (b - digit-zero)) Dead))
-next-of (ExponentSign m s) b = cond (digit b) (ExponentDigits m s (b - digit-zero)) Dead
-next-of (ExponentDigits m s n) b = cond (digit b) (ExponentDigits m s (min (n * 10 + (b - digit-zero)) (10 ^ 10))) Dead
-next-of (Radix r) b = cond (ltb (digit-worth b) r) (RadixDigits r (digit-worth b)) Dead
-next-of (RadixDigits r n) b = cond (ltb (digit-worth b) r) (RadixDigits r (min (n * r + digit-worth b) (2 ^ 32))) Dead
+next-of (Exponent m) b = cond (eqb b plus-sign) (ExponentSign m Plus) (cond (eqb b minus-sign) (ExponentSign m Minus) (cond (digit b) (Power m None (b - digit-zero)) Dead))
+next-of (ExponentSign m s) b = cond (digit b) (Power m s (b - digit-zero)) Dead
+next-of (Power m s n) b = cond (digit b) (Power m s (min (n * 10 + (b - digit-zero)) (10 ^ 10))) Dead
+next-of (Radix r) b = radix-of r 0 b
+next-of (Bits r n) b = radix-of r n b
 next-of Dead b = Dead
 
 abbrev pub dead : State → Bool
 dead Start = false
 dead (Signed s) = false
-dead (Whole s c) = false
+dead (Whole m) = false
 dead (Dot s) = false
 dead (Fraction m) = false
 dead (Exponent m) = false
 dead (ExponentSign m s) = false
-dead (ExponentDigits m s n) = false
+dead (Power m s n) = false
 dead (Radix r) = false
-dead (RadixDigits r n) = false
+dead (Bits r n) = false
 dead Dead = true
+
+-- k is one that a decimal may have
+abbrev pub in-range : ℤ → Bool
+in-range k = leZ (negsuc 98) k && leZ k (pos 99)
 
 -- what a run is, once all of it was read
 abbrev pub finish-of : State → Reading
 finish-of Start = name
 finish-of (Signed s) = name
-finish-of (Whole s c) = cond (fits? (minus s) c) (integer (signed (minus s) c)) (real-reading (minus s) c (pos 0 -ℤ pos 0))
+finish-of (Whole m) = cond (fits? (minus (m .sign)) (m .c)) (integer (signed (minus (m .sign)) (m .c))) (real-reading (minus (m .sign)) (m .c) (pos 0 -ℤ pos (m .places)))
 finish-of (Dot s) = name
 finish-of (Fraction m) = real-reading (minus (m .sign)) (m .c) (pos 0 -ℤ pos (m .places))
 finish-of (Exponent m) = name
 finish-of (ExponentSign m s) = name
-finish-of (ExponentDigits m s n) = real-reading (minus (m .sign)) (m .c) (signed (minus s) n -ℤ pos (m .places))
+finish-of (Power m s n) = real-reading (minus (m .sign)) (m .c) (signed (minus s) n -ℤ pos (m .places))
 finish-of (Radix r) = name
-finish-of (RadixDigits r n) = radix-reading n
+finish-of (Bits r n) = radix-reading n
 finish-of Dead = name
 
 -- with so many bytes to come the places stay below the limit of a source
@@ -92,12 +104,12 @@ pub record In-bounds (left : ℕ) (m : Mantissa) : Type 0 where
 abbrev pub Sound : ℕ → State → Type 0
 Sound left Start = Unit {0}
 Sound left (Signed s) = Unit {0}
-Sound left (Whole s c) = c ≤ 10 ^ 18
+Sound left (Whole m) = In-bounds left m
 Sound left (Dot s) = Unit {0}
 Sound left (Fraction m) = In-bounds left m
 Sound left (Exponent m) = In-bounds left m
 Sound left (ExponentSign m s) = In-bounds left m
-Sound left (ExponentDigits m s n) = In-bounds left m × (n ≤ 10 ^ 10)
-Sound left (Radix r) = r ≤ 36
-Sound left (RadixDigits r n) = (r ≤ 36) × (n ≤ 2 ^ 32)
+Sound left (Power m s n) = In-bounds left m × (n ≤ 10 ^ 10)
+Sound left (Radix r) = Unit {0}
+Sound left (Bits r n) = n ≤ 2 ^ 32
 Sound left Dead = Unit {0}

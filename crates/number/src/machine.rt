@@ -8,7 +8,7 @@ ghost use Rattle.definitions.specs.Bytes.{regular, front};
 ghost use Rattle.definitions.specs.Moves.{«past-class»};
 ghost use Rattle.definitions.specs.Numbers.{signed, settled, Reads};
 ghost use Rattle.definitions.specs.Readings.{«fits?», «radix-reading», «real-reading»};
-ghost use Rattle.number.specs.Machine.{minus, dead, base, «whole-of», «placed-of», «next-of», «finish-of», «In-bounds», Sound};
+ghost use Rattle.number.specs.Machine.{minus, dead, base, «whole-of», «longer-of», «placed-of», «radix-of», «next-of», «in-range», «finish-of», «In-bounds», Sound};
 ghost use Rattle.number.specs.Runs.{«as-reading»};
 use super::decimal::Decimal;
 use super::state::Mantissa;
@@ -35,17 +35,17 @@ const MOST_DIGITS: u64 = 1_000_000_000_000_000_000;
 
 // No exponent from here on is told apart from another: it is past the limits however many of a
 // run's bytes, fewer than 2^32, stand after the dot.
-const MOST_EXPONENT: u64 = 10_000_000_000;
+const MOST_POWER: u64 = 10_000_000_000;
 
 // Nor is a radix number from 2^32 on.
 const MOST_BITS: u64 = 4_294_967_296;
 
-// One digit more of a number in a base; from `most` on it is `most`.
-fn with_digit(n: u64, base: u8, digit: u8, most: u64) -> u64
-    requires { ⌜ n * base ≤ 10 ^ 19 ⌝ }
-    ensures { λ r. ⌜ r ≡ min (n * base + digit) most ⌝ }
+// One decimal digit more; from `most` on it is `most`.
+fn with_digit(n: u64, digit: u8, most: u64) -> u64
+    requires { ⌜ n ≤ 10 ^ 18 ⌝ }
+    ensures { λ r. ⌜ r ≡ min (n * 10 + digit) most ⌝ }
 {
-    let longer = n * base as u64 + digit as u64;
+    let longer = n * 10 + digit as u64;
     if longer < most { longer } else { most }
 }
 
@@ -59,20 +59,33 @@ fn is_minus(sign: Sign) -> bool
 }
 
 // The digits read are a base: without a sign, and from 2 to 36.
-fn is_base(sign: Sign, c: u64) -> bool
-    ensures { λ r. ⌜ r ≡ base sign c ⌝ }
+fn is_base(m: Mantissa) -> bool
+    ensures { λ r. ⌜ r ≡ base (m .sign) (m .c) ⌝ }
 {
-    match sign {
-        Sign::None => c >= 2 && c <= 36,
+    match m.sign {
+        Sign::None => m.c >= 2 && m.c <= 36,
         _ => false,
     }
 }
 
-// Digits without a dot.
-fn whole(sign: Sign, c: u64) -> Mantissa
-    ensures { λ r. ⌜ r ≡ whole-of sign c ⌝ }
+// The first digit of a number.
+fn whole(sign: Sign, digit: u8) -> Mantissa
+    ensures { λ r. ⌜ r ≡ whole-of sign digit ⌝ }
 {
-    Mantissa { sign, c, places: 0 }
+    Mantissa {
+        sign,
+        c: digit as u64,
+        places: 0,
+    }
+}
+
+// One digit more.
+fn with_whole(m: Mantissa, digit: u8) -> Mantissa
+    requires { ⌜ In-bounds 1 m ⌝ }
+    ensures { λ r. ⌜ r ≡ longer-of m digit ⌝ }
+{
+    let c = with_digit(m.c, digit, MOST_DIGITS);
+    Mantissa { c, ..m }
 }
 
 // One digit more after the dot.
@@ -80,12 +93,27 @@ fn with_place(m: Mantissa, digit: u8) -> Mantissa
     requires { ⌜ In-bounds 1 m ⌝ }
     ensures { λ r. ⌜ r ≡ placed-of m digit ⌝ }
 {
-    let c = with_digit(m.c, 10, digit, MOST_DIGITS);
-    Mantissa {
-        sign: m.sign,
-        c,
-        places: m.places + 1,
+    let c = with_digit(m.c, digit, MOST_DIGITS);
+    let places = m.places + 1;
+    Mantissa { c, places, ..m }
+}
+
+// One byte more after the #: a digit of the base, or no number.
+fn radix_digit(base: u8, n: u64, b: u8) -> State
+    requires { ⌜ n ≤ 2 ^ 32 ⌝ }
+    ensures { λ r. ⌜ r ≡ radix-of base n b ⌝ }
+{
+    let digit = digit_worth(b);
+    if digit >= base {
+        return State::Dead;
     }
+    let longer = n * base as u64 + digit as u64;
+    let bits = if longer < MOST_BITS {
+        longer
+    } else {
+        MOST_BITS
+    };
+    State::Bits(base, bits)
 }
 
 // One byte more of the run.
@@ -96,45 +124,28 @@ fn next(state: State, b: u8) -> State
     match (state, b) {
         (State::Start, b'+') => State::Signed(Sign::Plus),
         (State::Start, b'-') => State::Signed(Sign::Minus),
-        (State::Start, b'0'..=b'9') => State::Whole(Sign::None, (b - b'0') as u64),
+        (State::Start, b'0'..=b'9') => State::Whole(whole(Sign::None, b - b'0')),
         (State::Start, b'.') => State::Dot(Sign::None),
-        (State::Signed(sign), b'0'..=b'9') => State::Whole(sign, (b - b'0') as u64),
-        (State::Signed(sign), b'.') => State::Dot(sign),
-        (State::Whole(sign, c), b'0'..=b'9') => State::Whole(
-            sign,
-            with_digit(c, 10, b - b'0', MOST_DIGITS),
-        ),
-        (State::Whole(sign, c), b'.') => State::Fraction(whole(sign, c)),
-        (State::Whole(sign, c), b'e' | b'E') => State::Exponent(whole(sign, c)),
-        (State::Whole(sign, c), b'#') if is_base(sign, c) => State::Radix(c as u8),
-        (State::Dot(sign), b'0'..=b'9') => State::Fraction(with_place(whole(sign, 0), b - b'0')),
+        (State::Signed(s), b'0'..=b'9') => State::Whole(whole(s, b - b'0')),
+        (State::Signed(s), b'.') => State::Dot(s),
+        (State::Whole(m), b'0'..=b'9') => State::Whole(with_whole(m, b - b'0')),
+        (State::Whole(m), b'.') => State::Fraction(m),
+        (State::Whole(m), b'e' | b'E') => State::Exponent(m),
+        (State::Whole(m), b'#') if is_base(m) => State::Radix(m.c as u8),
+        (State::Dot(s), b'0'..=b'9') => State::Fraction(with_place(whole(s, 0), b - b'0')),
         (State::Fraction(m), b'0'..=b'9') => State::Fraction(with_place(m, b - b'0')),
         (State::Fraction(m), b'e' | b'E') => State::Exponent(m),
         (State::Exponent(m), b'+') => State::ExponentSign(m, Sign::Plus),
         (State::Exponent(m), b'-') => State::ExponentSign(m, Sign::Minus),
-        (State::Exponent(m), b'0'..=b'9') => State::ExponentDigits(
+        (State::Exponent(m), b'0'..=b'9') => State::Power(m, Sign::None, (b - b'0') as u64),
+        (State::ExponentSign(m, s), b'0'..=b'9') => State::Power(m, s, (b - b'0') as u64),
+        (State::Power(m, s, n), b'0'..=b'9') => State::Power(
             m,
-            Sign::None,
-            (b - b'0') as u64,
+            s,
+            with_digit(n, b - b'0', MOST_POWER),
         ),
-        (State::ExponentSign(m, sign), b'0'..=b'9') => State::ExponentDigits(
-            m,
-            sign,
-            (b - b'0') as u64,
-        ),
-        (State::ExponentDigits(m, sign, n), b'0'..=b'9') => State::ExponentDigits(
-            m,
-            sign,
-            with_digit(n, 10, b - b'0', MOST_EXPONENT),
-        ),
-        (State::Radix(base), _) if digit_worth(b) < base => State::RadixDigits(
-            base,
-            digit_worth(b) as u64,
-        ),
-        (State::RadixDigits(base, n), _) if digit_worth(b) < base => State::RadixDigits(
-            base,
-            with_digit(n, base, digit_worth(b), MOST_BITS),
-        ),
+        (State::Radix(base), _) => radix_digit(base, 0, b),
+        (State::Bits(base, n), _) => radix_digit(base, n, b),
         _ => State::Dead,
     }
 }
@@ -152,18 +163,10 @@ fn is_dead(state: State) -> bool
 fn integer(sign: Sign, c: u64) -> Option<i32>
     ensures { λ r. ⌜ Cases r (fits? (minus sign) c ≡ false) (λ n. (fits? (minus sign) c ≡ true) × (n ≡ signed (minus sign) c)) ⌝ }
 {
-    if is_minus(sign) {
-        if c <= 2_147_483_648 {
-            Some((-(c as i64)) as i32)
-        } else {
-            None
-        }
-    } else {
-        if c <= 2_147_483_647 {
-            Some(c as i32)
-        } else {
-            None
-        }
+    match sign {
+        Sign::Minus if c <= 2_147_483_648 => Some((-(c as i64)) as i32),
+        Sign::None | Sign::Plus if c <= 2_147_483_647 => Some(c as i32),
+        _ => None,
     }
 }
 
@@ -204,13 +207,20 @@ fn scale(m: Mantissa, exponent: i64) -> i64
     }
 }
 
+// k is one that a decimal may have.
+fn in_range(k: i64) -> bool
+    ensures { λ r. ⌜ r ≡ in-range k ⌝ }
+{
+    k >= -99 && k <= 99
+}
+
 // A real with this exponent, if it is within its limits.
 fn real(m: Mantissa, exponent: i64) -> Reading
     requires { ⌜ (negℤ (pos (10 ^ 10)) ≤ℤ exponent) × (exponent ≤ℤ pos (10 ^ 10)) ⌝ }
     ensures { λ r. ⌜ as-reading r ≡ real-reading (minus (m .sign)) (m .c) (exponent -ℤ pos (m .places)) ⌝ }
 {
     let k = scale(m, exponent);
-    if k < -99 || k > 99 {
+    if !in_range(k) {
         return Reading::PastLimits;
     }
     match Decimal::new(is_minus(m.sign), m.c, k as i8) {
@@ -225,13 +235,13 @@ fn finish(state: State) -> Reading
     ensures { λ r. ⌜ as-reading r ≡ finish-of state ⌝ }
 {
     match state {
-        State::Whole(sign, c) => match integer(sign, c) {
+        State::Whole(m) => match integer(m.sign, m.c) {
             Some(n) => Reading::Integer(n),
-            None => real(whole(sign, c), 0),
+            None => real(m, 0),
         },
         State::Fraction(m) => real(m, 0),
-        State::ExponentDigits(m, sign, n) => real(m, exponent(sign, n)),
-        State::RadixDigits(_, bits) => radix(bits),
+        State::Power(m, sign, n) => real(m, exponent(sign, n)),
+        State::Bits(_, bits) => radix(bits),
         _ => Reading::Name,
     }
 }

@@ -22,7 +22,7 @@ pub enum State {
     Start,
     Signed(Sign),
     // one or more digits
-    Whole(Sign, u64),
+    Whole(Mantissa),
     // a dot, and no digit yet
     Dot(Sign),
     // a dot, and digits before or after it
@@ -30,10 +30,12 @@ pub enum State {
     // an e
     Exponent(Mantissa),
     ExponentSign(Mantissa, Sign),
-    ExponentDigits(Mantissa, Sign, u64),
+    // one or more digits of the exponent
+    Power(Mantissa, Sign, u64),
     // a base and #
     Radix(u8),
-    RadixDigits(u8, u64),
+    // one or more digits after them
+    Bits(u8, u64),
     // no number begins so
     Dead,
 }
