@@ -100,9 +100,9 @@ bits-back b l h =
     toBits-ofBits binary32 b l (subst (λ t. T (not t)) (sym (le-ltb infinite (size b) h) ∙ sym (nanBits-above binary32 b) ∙ nanBits-is binary32 b) tt)
 
 -- a finite single is a number, whatever its sign
-pub no-nan : (m : Bool) (s b : ℕ) → s ≡ sign-bit m → b < infinite → T (not (nanBits binary32 (s + b)))
-no-nan m s b e l = subst (λ t. T (not t)) (sym (nanBits-above binary32 (s + b) ∙ le-ltb infinite ((s + b) % 2147483648) (low m e))) tt
+pub no-nan : (m : Bool) (a b : ℕ) → a ≡ sign-bit m + b → b < infinite → T (not (nanBits binary32 a))
+no-nan m a b e l = subst (λ t. T (not t)) (sym (nanBits-above binary32 a ∙ le-ltb infinite (a % 2147483648) (low m e))) tt
   where
-    low : (m : Bool) → s ≡ sign-bit m → (s + b) % 2147483648 ≤ infinite
+    low : (m : Bool) → a ≡ sign-bit m + b → a % 2147483648 ≤ infinite
     low false e = omega arith
     low true e = omega arith

@@ -92,8 +92,8 @@ pub nearest-none : (den : ℕ) → Nearest-to 0 den 0
 nearest-none den = record { finite = lit< tt; closest = λ b l. omega arith; even = λ b l n e. refl }
 
 -- shifted by its leading zeros a number keeps all its bits, and has the highest set
-pub leans : (n : ℕ) → 0 < n → n < 2 ^ 64 → (n * 2 ^ leadingZeros 64 n % 2 ^ 64 ≡ n * 2 ^ leadingZeros 64 n) × (2 ^ 63 ≤ n * 2 ^ leadingZeros 64 n) × (leadingZeros 64 n ≤ 63)
-leans n p h =
+pub normalises : (n : ℕ) → 0 < n → n < 2 ^ 64 → (n * 2 ^ leadingZeros 64 n % 2 ^ 64 ≡ n * 2 ^ leadingZeros 64 n) × (2 ^ 63 ≤ n * 2 ^ leadingZeros 64 n) × (leadingZeros 64 n ≤ 63)
+normalises n p h =
     let (j, e, l, u) = leading-top 64 n p h in
     let i : j + leadingZeros 64 n ≡ 63 = omega arith in (
       shl-whole n (suc j) (leadingZeros 64 n) 64 u (omega arith),

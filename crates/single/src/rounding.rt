@@ -5,17 +5,17 @@ ghost use Rattle.single.specs.Fractions.{Rounds, «Nearest-to»};
 
 // A number times 2^shift, with the highest of its 64 bits set.
 #[derive(Clone, Copy)]
-struct Leaning {
+struct Normalised {
     value: u64,
     shift: u32,
 }
 
-fn lean(n: u64) -> Leaning
+fn normalise(n: u64) -> Normalised
     requires { ⌜ 0 < n ⌝ }
     ensures { λ r. ⌜ (r .value ≡ n * 2 ^ r .shift) × (2 ^ 63 ≤ r .value) × (r .shift ≤ 63) ⌝ }
 {
     let shift = n.leading_zeros();
-    Leaning {
+    Normalised {
         value: n << shift,
         shift,
     }
@@ -49,8 +49,8 @@ pub(crate) fn nearest_bits(num: u64, den: u64) -> u32
     if num == 0 {
         return 0;
     }
-    let n = lean(num);
-    let d = lean(den);
+    let n = normalise(num);
+    let d = normalise(den);
     let more = more_bits(n.value, d.value);
     let wide = (n.value as u128) << more;
     let divisor = d.value as u128;

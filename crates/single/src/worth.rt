@@ -11,8 +11,10 @@ pub(crate) struct Fraction {
     pub den: u64,
 }
 
-// A near real above 1 stays below this.
+// A near real stays below this at each factor of ten.
 const MOST: u64 = 1_000_000_000_000_000_000;
+
+const MOST_FACTORS: u8 = 18;
 
 const POWERS: [u64; 19] = [
     1,
@@ -64,7 +66,7 @@ pub(crate) fn worth(c: u64, k: i8) -> Option<Fraction>
     ensures { λ r. ⌜ Cases r (Near c k → ⊥) (λ w. Near c k × Worth-of c k (w .num) (w .den) × (0 < w .den)) ⌝ }
 {
     let factors = k.unsigned_abs();
-    if factors > 18 {
+    if factors > MOST_FACTORS {
         return None;
     }
     if k < 0 {

@@ -13,7 +13,7 @@ use Rattle.single.proofs.Worths.{nearest-worth}
 use Rattle.single.proofs.nearest.nearest.Needs as need
 
 pub float-from-bits-result : need.float-from-bits-result
-float-from-bits-result c = no-nan (c .is-negative .result) (c .sign-bit .result) (c .nearest-bits-bits .result) (c .sign-bit .ensures) (c .nearest-bits-bits .ensures .finite)
+float-from-bits-result c = no-nan (c .is-negative .result) (c .with-sign .result) (c .nearest-bits-bits .result) (c .with-sign .ensures) (c .nearest-bits-bits .ensures .finite)
 
 pub returns : need.returns
 returns c =
@@ -24,4 +24,4 @@ returns c =
     let k : toZ w8 (ofZ w8 (c .k .result)) ≡ r .k = toZ-ofZ w8 (c .k .result) s ∙ c .k .ensures in
     let h = subst (λ d. Near d (toZ w8 (ofZ w8 (c .k .result))) × Worth-of d (toZ w8 (ofZ w8 (c .k .result))) (f .num) (f .den) × (0 < f .den)) (c .c .ensures) (c .in-Some .ensures tt) in
     let (n, w, p) = subst (λ z. Near (r .c) z × Worth-of (r .c) z (f .num) (f .den) × (0 < f .den)) k h in
-    (n, (b, nearest-worth (r .c) (r .k) (f .num) (f .den) b w (c .nearest-bits-bits .ensures), ap (λ t. ofBits binary32 (t + b)) (c .sign-bit .ensures ∙ ap sign-bit (c .is-negative .ensures))))
+    (n, (b, nearest-worth (r .c) (r .k) (f .num) (f .den) b w (c .nearest-bits-bits .ensures), ap (ofBits binary32) (c .with-sign .ensures ∙ ap (λ m. sign-bit m + b) (c .is-negative .ensures))))
