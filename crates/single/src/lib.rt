@@ -1,0 +1,4 @@
+pub mod nearest;
+pub mod number;
+mod rounding;
+mod worth;
