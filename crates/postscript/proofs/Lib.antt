@@ -2,4 +2,5 @@ pub mod Looking
 pub mod Taking
 pub mod Bracketed
 pub mod Runs
+pub mod NumberTurn
 pub mod OneTurn

@@ -1,14 +1,15 @@
 ghost use mathlib.Core.List.{List, [], _∷_};
 ghost use mathlib.Core.Path.{_≡_};
 ghost use Prim.Native.Nat.{ℕ};
-ghost use Rattle.definitions.specs.PlainReader.{Turn, Piece, parses, «parse-object», «at-end», «yes-no», gap};
-ghost use Rattle.postscript.specs.Reading.{Insides, answered};
+ghost use Rattle.definitions.specs.PlainReader.{Turn, Piece, parses, «parse-object», «parse-number», «at-end», «yes-no», gap};
+ghost use Rattle.postscript.specs.Reading.{Insides, answered, «number-answered»};
 use super::error::Refusal;
 use super::object::Object;
 use super::read::read;
 use reader::source::Ending;
 use reader::source::Source;
 use reader::source::Windowed;
+use single::number::Number;
 use syntax::gap::pass_gap;
 
 // A scanner: it reads one object after the other from its source.
@@ -50,5 +51,20 @@ impl<S: Windowed> Scanner<S> {
         ensures lies { λ _. ⌜ S·Source .lies (now (self .exit) .source) ≡ S·Source .lies (now (self .entry) .source) ⌝ }
     {
         read(&mut self.source)
+    }
+
+    // The number after the gap. An object that is none is passed, and refused at its start.
+    pub fn parse_number(&mut self) -> Result<Number, Refusal>
+        ensures turn { λ r. ⌜ ((ps : List Piece) × Turn (S·Source .meaning (now (self .entry) .source)) (parses parse-number) (number-answered r) ps (S·Source .meaning (now (self .exit) .source))) ⌝ }
+        ensures lies { λ _. ⌜ S·Source .lies (now (self .exit) .source) ≡ S·Source .lies (now (self .entry) .source) ⌝ }
+    {
+        let object = self.parse_object()?;
+        match object.number() {
+            Ok(number) => Ok(number),
+            Err(reason) => Err(Refusal {
+                place: object.part().start,
+                reason,
+            }),
+        }
     }
 }
