@@ -1,16 +1,15 @@
 -- The quotient rounded to 24 bits is the nearest single: its two neighbours do not beat it. Assumes nothing.
 use mathlib.Core.Logic.{_⊎_, inl, inr}
 use mathlib.Core.Path.{_≡_, refl, sym, ap, ap₂, subst, _∙_}
-use Prim.Native.Nat.{ℕ, zero, suc, _+_, _-_, _*_, _/_, _%_, _^_, _≤_, _<_}
-use native.Mathlib.Nat.{add-mul, one-mul, mul-assoc, mul-comm, mul-le-mul-right, mul-lt-mul-of-pos-right, eq-of-mul-eq-mul-right, mul-pos, pow-succ', le-div-iff-mul-le, div-lt-iff-lt-mul, div-add-mod', mod-lt}
+use Prim.Native.Nat.{ℕ, suc, _+_, _-_, _*_, _/_, _%_, _^_, _≤_, _<_}
+use native.Mathlib.Nat.{add-mul, one-mul, mul-assoc, mul-comm, mul-le-mul-right, mul-lt-mul-of-pos-right, eq-of-mul-eq-mul-right, pow-succ', le-div-iff-mul-le, div-lt-iff-lt-mul, div-add-mod', mod-lt}
 use native.Mathlib.Omega.{arith}
 use lib.Count.{leadingZeros, leading-top}
-use lib.Dec.{lit<}
 use lib.Pow.{pow-add, pow-pos}
 use Rattle.std.proofs.shelf.Bits.{shl-whole}
 use Rattle.std.proofs.shelf.Tests.{cases-lt}
 use Rattle.definitions.specs.Singles.{scaled, units, infinite}
-use Rattle.definitions.proofs.Singles.{rising, units-up, Best, Beats, best-since}
+use Rattle.definitions.proofs.Singles.{rising, units-up, Best, best-since}
 use Rattle.single.specs.Fractions.{Nearest-to, Rounds}
 
 -- what bits with a field of k + 1 or k + 2 are worth
@@ -88,9 +87,6 @@ module _ (num den n d s k q r : ℕ) (E : 0 < den) (P : 0 < s) (x : num * 2 ^ 14
   nearest-since m b (inl h) = subst (λ t. Nearest-to num den (k * 2 ^ 23 + t)) (sym (h .0)) (low (k * 2 ^ 23 + q - 1) (omega arith) (h .1) (h .2))
   nearest-since m b (inr h) = subst (λ t. Nearest-to num den (k * 2 ^ 23 + t)) (sym (h .0)) (high (h .1) (omega arith) (h .2))
 
-pub nearest-none : (den : ℕ) → Nearest-to 0 den 0
-nearest-none den = record { finite = lit< tt; closest = λ b l. omega arith; even = λ b l n e. refl }
-
 -- shifted by its leading zeros a number keeps all its bits, and has the highest set
 pub normalises : (n : ℕ) → 0 < n → n < 2 ^ 64 → (n * 2 ^ leadingZeros 64 n % 2 ^ 64 ≡ n * 2 ^ leadingZeros 64 n) × (2 ^ 63 ≤ n * 2 ^ leadingZeros 64 n) × (leadingZeros 64 n ≤ 63)
 normalises n p h =
@@ -114,7 +110,7 @@ quotient n d p lo hi = (le-div-iff-mul-le p .1 lo, div-lt-iff-lt-mul p .1 hi)
 
 -- num and den shifted by a and b bits, and num by j more, are rounded to the nearest
 module _ (num den v w a b j : ℕ) (E : 0 < den) (V : v ≡ num * 2 ^ a) (W : w ≡ den * 2 ^ b) (va : 2 ^ 63 ≤ v) (vb : v < 2 ^ 64) (wa : 2 ^ 63 ≤ w) (wb : w < 2 ^ 64) (A : a ≤ 63) (B : b ≤ 63) (J : More v w j) where
-  pub few : j ≤ 24
+  few : j ≤ 24
   few = step J
     where
       step : More v w j → j ≤ 24
@@ -134,17 +130,17 @@ module _ (num den v w a b j : ℕ) (E : 0 < den) (V : v ≡ num * 2 ^ a) (W : w 
   rounded-fits m (inl h) = let e = h .0 in let q = quotient-fits in omega arith
   rounded-fits m (inr h) = let e = h .0 in let q = quotient-fits in omega arith
 
-  pub shifted-nearest : (m : ℕ) → Rounds (v * 2 ^ j % 2 ^ 128 / w) (v * 2 ^ j % 2 ^ 128 % w * 2) w m → Nearest-to num den ((149 + b - a - j) * 2 ^ 23 + m)
-  shifted-nearest m h =
+  pub shifted-nearest : (k m : ℕ) → k + a + j ≡ 149 + b → Rounds (v * 2 ^ j % 2 ^ 128 / w) (v * 2 ^ j % 2 ^ 128 % w * 2) w m → Nearest-to num den (k * 2 ^ 23 + m)
+  shifted-nearest k m e h =
       let c = 149 - a - j in
       let i = few in
       let p : a + (j + c) ≡ 149 = omega arith in
-      let o : b + c ≡ 149 + b - a - j = omega arith in
+      let o : b + c ≡ k = omega arith in
       let (y, z) = in-24-bits in
       let g : 0 < w = omega arith in
       let x : num * 2 ^ 149 ≡ v * 2 ^ j * 2 ^ c =
       ap (λ t. num * 2 ^ t) (sym p) ∙ ap (λ t. num * t) (pow-add 2 a (j + c)) ∙ sym (mul-assoc num (2 ^ a) (2 ^ (j + c))) ∙ ap₂ (λ t u. t * u) (sym V) (pow-add 2 j c) ∙ sym (mul-assoc v (2 ^ j) (2 ^ c)) in
-      let u : den * 2 ^ (149 + b - a - j) ≡ w * 2 ^ c =
+      let u : den * 2 ^ k ≡ w * 2 ^ c =
       ap (λ t. den * 2 ^ t) (sym o) ∙ ap (λ t. den * t) (pow-add 2 b c) ∙ sym (mul-assoc den (2 ^ b) (2 ^ c)) ∙ ap (λ t. t * 2 ^ c) (sym W) in
-      nearest-since num den (v * 2 ^ j) w (2 ^ c) (149 + b - a - j) (v * 2 ^ j / w) (v * 2 ^ j % w) E (pow-pos c) x u (div-add-mod' (v * 2 ^ j) w) y z (omega arith) m (mod-lt (v * 2 ^ j) g)
+      nearest-since num den (v * 2 ^ j) w (2 ^ c) k (v * 2 ^ j / w) (v * 2 ^ j % w) E (pow-pos c) x u (div-add-mod' (v * 2 ^ j) w) y z (omega arith) m (mod-lt (v * 2 ^ j) g)
       (subst (λ t. Rounds (t / w) (t % w * 2) w m) whole h)

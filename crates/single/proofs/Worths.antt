@@ -11,7 +11,7 @@ use lib.Pow.{pow-add}
 use lib.Signed.{ltZ}
 use Rattle.std.proofs.shelf.Tests.{ltb-true, both-ways}
 use Rattle.definitions.specs.PlainReader.{Near, scaled-up, scaled-down}
-use Rattle.definitions.specs.Singles.{units, Nearest}
+use Rattle.definitions.specs.Singles.{Nearest}
 use Rattle.definitions.proofs.Singles.{ten-pos}
 use Rattle.single.specs.Fractions.{Nearest-to, Worth-of}
 

@@ -28,6 +28,14 @@ fn more_bits(n: u64, d: u64) -> u32
     if n < d { 24 } else { 23 }
 }
 
+// What is rounded counts 2^exponent of the smallest single, 2^-149.
+fn exponent(down: u32, up: u32, more: u32) -> u32
+    requires { ⌜ (up ≤ 63) × (down ≤ 63) × (more ≤ 24) ⌝ }
+    ensures { λ r. ⌜ r + up + more ≡ 149 + down ⌝ }
+{
+    149 + down - up - more
+}
+
 // q, or the next number up, as twice the remainder is less or more than the divisor; at a tie the
 // even one of the two.
 fn rounded(q: u32, twice: u128, divisor: u128) -> u32
@@ -55,7 +63,5 @@ pub(crate) fn nearest_bits(num: u64, den: u64) -> u32
     let wide = (n.value as u128) << more;
     let divisor = d.value as u128;
     let m = rounded((wide / divisor) as u32, wide % divisor * 2, divisor);
-    // m is worth m × 2^exponent of the smallest single
-    let exponent = 149 + d.shift - n.shift - more;
-    exponent * 8_388_608 + m
+    exponent(d.shift, n.shift, more) * 8_388_608 + m
 }
