@@ -1,0 +1,5 @@
+pub mod decode;
+mod decodable;
+mod escape;
+mod newline;
+pub mod undecoded;
