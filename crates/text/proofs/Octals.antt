@@ -5,13 +5,10 @@ use mathlib.Core.Path.{_≡_, refl, sym, ap, ap₂, _∙_}
 use Prim.Native.Nat.{ℕ, _+_, _-_, _*_, _%_, _≤_, _<_}
 use native.Mathlib.Nat.{zero-add, mod-eq-of-lt}
 use native.Mathlib.Omega.{arith}
-use borrow.Author.Tests.{lt-ltb}
 use lib.Dec.{ltb}
-use Rattle.std.specs.declared.option.Option.the-variants.{Some}
 use Rattle.std.proofs.shelf.Ways.{tells}
 use Rattle.definitions.specs.Bytes.{octal}
 use Rattle.definitions.specs.LiteralText.{decode, decode-octal, decode-last}
-use Rattle.definitions.specs.Moves.{first, rest}
 use Rattle.definitions.specs.Numbers.{digit-worth, value}
 
 -- after n octal digits that came to v: there are at most three
@@ -54,8 +51,3 @@ octal-more-is x (y ∷ bs) h = step (octal y) refl
     step : (s : Bool) → octal y ≡ s → cond s (octal-more 2 ((x - 48) * 8 + (y - 48)) bs) (((x - 48) % 256) ∷ decode (y ∷ bs)) ≡ cond s (decode-last x y bs) (value 8 (x ∷ []) ∷ decode (y ∷ bs))
     step true e = third x y bs h e
     step false e = ap (λ v. v ∷ decode (y ∷ bs)) (one x h)
-
--- one digit more
-pub octal-again : (n v b : ℕ) (bs : List ℕ) → Some b ≡ first bs → n < 3 → octal b ≡ true → octal-more (n + 1) (v * 8 + (b - 48)) (rest bs) ≡ octal-more n v bs
-octal-again n v b [] e l h = grind arith
-octal-again n v b (x ∷ bs) e l h = let q : x ≡ b = cc in let k : ltb n 3 ≡ true = lt-ltb n 3 l in rw (q, k, h)

@@ -2,18 +2,27 @@
 use mathlib.Core.List.{List, [], _∷_, _++_, append-assoc, append-nil}
 use mathlib.Core.Path.{_≡_, refl, sym, ap, _∙_}
 use Prim.Native.Nat.{ℕ, _+_, _≤_, _<_}
+use native.Mathlib.Numerals.{add-one}
 use native.Mathlib.Omega.{arith}
 use lib.ListN.{length, take, drop, set}
 use Rattle.std.proofs.shelf.Lists.{take-more-set, drop-set-lt, drop-drop, take-append-drop, length-take-le}
 use Rattle.std.specs.declared.option.Option.the-variants.{Some, None}
 use Rattle.definitions.specs.LiteralText.{decode}
-use Rattle.definitions.specs.Moves.{first, rest}
+use Rattle.definitions.specs.Moves.{first, rest, stepped}
+use Rattle.definitions.specs.Sources.{Meaning}
 
--- the first byte, and what it leaves
-pub first-taken : (b : ℕ) (bs : List ℕ) → Some b ≡ first bs → bs ≡ b ∷ rest bs
+-- a first byte is taken, and its piece gives a byte
+first-taken : (b : ℕ) (bs : List ℕ) → Some b ≡ first bs → bs ≡ b ∷ rest bs
 first-taken b [] e = grind arith
 first-taken b (x ∷ bs) e = let q : x ≡ b = cc in rw q
 
+pub one-less : (b : ℕ) (m n : Meaning) → Some b ≡ first (m .to-come) → n ≡ stepped m → length (m .to-come) ≡ length (n .to-come) + 1
+one-less b m n e k = rw k (ap length (first-taken b (m .to-come) e) ∙ sym (add-one (length (rest (m .to-come)))))
+
+pub piece-gives : (b byte : ℕ) (m n : Meaning) (more : List ℕ) → Some b ≡ first (m .to-come) → n ≡ stepped m → decode (b ∷ n .to-come) ≡ byte ∷ more → decode (m .to-come) ≡ byte ∷ more
+piece-gives b byte m n more e k h = ap decode (first-taken b (m .to-come) e) ∙ ap (λ (w : Meaning). decode (b ∷ w .to-come)) (sym k) ∙ h
+
+-- none is left
 pub none-left : (bs : List ℕ) → None ≡ first bs → bs ≡ []
 none-left [] e = refl
 none-left (b ∷ bs) e = grind arith

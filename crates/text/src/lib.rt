@@ -1,5 +1,5 @@
-pub mod decode;
 mod decodable;
+pub mod decode;
 mod escape;
 mod newline;
 pub mod undecoded;

@@ -1,11 +1,8 @@
-use Rattle.std.proofs.shelf.Results.{err-from-errBy}
-use Rattle.text.proofs.Settled.{refused, wrote}
+use Rattle.text.proofs.Settled.{settled, fits}
 use Rattle.text.proofs.decode.decode.Needs as need
 
-pub returns-in-Break-check : need.returns-in-Break-check
-returns-in-Break-check g c =
-    let p = err-from-errBy (c .from-residual .result) (c .from-residual .ensures .1) in
-    rw (p .1, p .2) (refused (c .args .buffer .now) (g .S·Source .meaning (c .args .source .now)) (c .in-Break-check .field-0 .0) (c .in-Break-check .ensures tt))
-
 pub returns : need.returns
-returns g c = wrote (c .args .buffer .now) (c .write .last .buffer) (g .S·Source .meaning (c .args .source .now)) (c .write .result) (c .in-Continue-check .ensures tt) (c .write .ensures .count) (c .write .ensures .bytes)
+returns g c =
+    let m = g .S·Source .meaning (c .args .source .now) in
+    let t = settled (c .args .buffer .now) m (c .decode-copy .result) (c .decode-copy .last .buffer) (c .decode-copy .ensures) in
+    record { text = t; room = fits (m .place) (c .decode-copy .result) t }
