@@ -40,12 +40,12 @@ settled buffer m (Ok n) after h = wrote buffer after m n (h .0) (h .1) (h .2)
 settled buffer m (Err why) after h = subst (λ l. Decodes-source buffer m (told (m .place) (Err why)) l) (sym (h .1)) (refused buffer m why (h .0))
 
 -- the decoded bytes fit in the buffer
-counted : {buffer text after : List ℕ} {place : ℕ} {e : Ending} {t : Told} → Decodes-into buffer text place e t after → (n : ℕ) → t ≡ decoded n → n ≤ length after
-counted Decodes-into.faulty n k = grind arith
-counted (Decodes-into.backslash x) n k = grind arith
-counted (Decodes-into.too-short d x h) n k = grind arith
-counted {buffer = buffer} (Decodes-into.writes d x h) n k = let q : length d ≡ n = cc in omega (arith, length-append d (drop (length d) buffer))
+pub count-fits : {buffer text after : List ℕ} {place : ℕ} {e : Ending} {t : Told} → Decodes-into buffer text place e t after → (n : ℕ) → t ≡ decoded n → n ≤ length after
+count-fits Decodes-into.faulty n k = grind arith
+count-fits (Decodes-into.backslash x) n k = grind arith
+count-fits (Decodes-into.too-short d x h) n k = grind arith
+count-fits {buffer = buffer} (Decodes-into.writes d x h) n k = let q : length d ≡ n = cc in omega (arith, length-append d (drop (length d) buffer))
 
 pub fits : {buffer text after : List ℕ} {e : Ending} (place : ℕ) (r : Result ℕ Undecoded) → Decodes-into buffer text place e (told place r) after → Cases r (λ n. n ≤ length after) (λ _. Unit {0})
-fits place (Ok n) x = counted x n refl
+fits place (Ok n) x = count-fits x n refl
 fits place (Err why) x = tt
