@@ -2,10 +2,8 @@
 use mathlib.Core.Bool.{Bool, true, false}
 use mathlib.Core.List.{List}
 use mathlib.Core.Path.{_≡_, refl, sym, subst₂}
-use Prim.Native.Nat.{ℕ, _≤_}
+use Prim.Native.Nat.{ℕ}
 use native.Mathlib.Omega.{arith}
-use lib.ListN.{length}
-use Rattle.std.specs.Results.{Cases}
 use Rattle.std.specs.declared.result.Result.{Result}
 use Rattle.std.specs.declared.result.Result.the-variants.{Ok, Err}
 use Rattle.definitions.specs.Decoder.{Told, decoded, turned-down, Decodes-into, Decodes-held}
@@ -15,7 +13,6 @@ use Rattle.definitions.proofs.Total.{accepts-so}
 use Rattle.text.specs.Answers.{told}
 use Rattle.text.specs.declared.undecoded.Undecoded.{Undecoded}
 use Rattle.text.specs.declared.undecoded.Undecoded.the-variants as text
-use Rattle.text.proofs.Settled.{count-fits}
 use Rattle.postscript.specs.Decoding.{reason-of, decoder-told, text-of-form, text-of, Text-decodes}
 use Rattle.postscript.specs.Objects.{kind-number, name-kind, string-kind, kind-of, part-of}
 use Rattle.postscript.specs.declared.error.Reason.{Reason}
@@ -71,17 +68,3 @@ held-object meaning buffer after (Name n) r x = refused meaning (kind-number (na
     no-name false a = accepts-so a
 held-object meaning buffer after (String s) r x = held-string meaning buffer after (s .part .start) (s .form) (s .part .inside) r x
 held-object meaning buffer after (Array a) r x = refused meaning 8 (a .part .start) (a .part .inside) OtherType x (Decodes-held.other-type accepts-so)
-
--- the decoded bytes fit in the buffer
-pub fits : {buffer text after : List ℕ} {place : ℕ} {e : Ending} (r : Result ℕ Refusal) → Decodes-into buffer text place e (decoder-told r) after → Cases r (λ n. n ≤ length after) (λ _. Unit {0})
-fits (Ok n) x = count-fits x n refl
-fits (Err why) x = tt
-
-held-count : {buffer after : List ℕ} {kind start : ℕ} {m : Meaning} {t : Told} → Decodes-held buffer kind start m t after → (n : ℕ) → t ≡ decoded n → n ≤ length after
-held-count (Decodes-held.other-type h) n k = grind arith
-held-count (Decodes-held.encoded a h) n k = grind arith
-held-count (Decodes-held.literal e x) n k = count-fits x n k
-
-pub held-fits : {buffer after : List ℕ} {kind start : ℕ} {m : Meaning} (r : Result ℕ Refusal) → Decodes-held buffer kind start m (decoder-told r) after → Cases r (λ n. n ≤ length after) (λ _. Unit {0})
-held-fits (Ok n) x = held-count x n refl
-held-fits (Err why) x = tt

@@ -26,7 +26,8 @@ fn reason(why: Undecoded) -> Reason
 
 // Decodes the bytes to come of a source as literal text; a refusal is at the place that is given.
 fn decode_at<S: Source>(source: &S, place: u32, buffer: &mut [u8]) -> Result<usize, Refusal>
-    ensures { λ r. ⌜ Decodes-into (now (buffer .entry)) (S·Source .meaning (now (source .entry)) .to-come) place (S·Source .meaning (now (source .entry)) .ending) (decoder-told r) (now (buffer .exit)) ⌝ }
+    ensures text { λ r. ⌜ Decodes-into (now (buffer .entry)) (S·Source .meaning (now (source .entry)) .to-come) place (S·Source .meaning (now (source .entry)) .ending) (decoder-told r) (now (buffer .exit)) ⌝ }
+    ensures room { λ r. ⌜ Cases r (λ n. n ≤ length (now (buffer .exit))) (λ _. Unit {0}) ⌝ }
 {
     match decode(source, buffer) {
         Ok(count) => Ok(count),
@@ -43,7 +44,8 @@ fn decode_held<I: Source>(
     start: u32,
     buffer: &mut [u8],
 ) -> Result<usize, Refusal>
-    ensures { λ r. ⌜ Text-decodes (I·Source .meaning) (now (buffer .entry)) start text r (now (buffer .exit)) ⌝ }
+    ensures text { λ r. ⌜ Text-decodes (I·Source .meaning) (now (buffer .entry)) start text r (now (buffer .exit)) ⌝ }
+    ensures room { λ r. ⌜ Cases r (λ n. n ≤ length (now (buffer .exit))) (λ _. Unit {0}) ⌝ }
 {
     match text {
         Ok(inside) => decode_at(&inside, start, buffer),

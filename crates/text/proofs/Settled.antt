@@ -40,7 +40,7 @@ settled buffer m (Ok n) after h = wrote buffer after m n (h .0) (h .1) (h .2)
 settled buffer m (Err why) after h = subst (λ l. Decodes-source buffer m (told (m .place) (Err why)) l) (sym (h .1)) (refused buffer m why (h .0))
 
 -- the decoded bytes fit in the buffer
-pub count-fits : {buffer text after : List ℕ} {place : ℕ} {e : Ending} {t : Told} → Decodes-into buffer text place e t after → (n : ℕ) → t ≡ decoded n → n ≤ length after
+count-fits : {buffer text after : List ℕ} {place : ℕ} {e : Ending} {t : Told} → Decodes-into buffer text place e t after → (n : ℕ) → t ≡ decoded n → n ≤ length after
 count-fits Decodes-into.faulty n k = grind arith
 count-fits (Decodes-into.backslash x) n k = grind arith
 count-fits (Decodes-into.too-short d x h) n k = grind arith
