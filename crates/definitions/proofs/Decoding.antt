@@ -186,9 +186,12 @@ mutual
   cut-after [] h = ([], refl, tt)
   cut-after (b ∷ s) h = let (t, e, k) = cut-last s h in (92 ∷ b ∷ t, ap (λ l. 92 ∷ b ∷ l) e, k)
 
+pub ends-as : (t : List ℕ) → paired t ≡ false → Ends-in-backslash t
+ends-as t e = let (s, k, p) = cut-last t e in subst Ends-in-backslash k (Ends-in-backslash.lone (decodes (length s) s (omega arith) p .1))
+
 pub decodes-or-ends : (t : List ℕ) → Decoded t ⊎ Ends-in-backslash t
 decodes-or-ends t = step (paired t) refl
   where
     step : (p : Bool) → paired t ≡ p → Decoded t ⊎ Ends-in-backslash t
     step true e = inl (decodes (length t) t (omega arith) (T-from (paired t) e))
-    step false e = let (s, k, p) = cut-last t e in inr (subst Ends-in-backslash k (Ends-in-backslash.lone (decodes (length s) s (omega arith) p .1)))
+    step false e = inr (ends-as t e)

@@ -1,3 +1,4 @@
+pub mod Decoded
 pub mod Looking
 pub mod Taking
 pub mod Bracketed

@@ -1,3 +1,4 @@
+pub mod Decoding
 pub mod Objects
 pub mod Reading
 pub mod Refusals

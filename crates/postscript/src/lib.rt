@@ -1,4 +1,5 @@
 pub mod array;
+pub mod decode;
 pub mod error;
 pub mod kind;
 pub mod name;

@@ -1,0 +1,3 @@
+pub mod Octals
+pub mod Settled
+pub mod Written

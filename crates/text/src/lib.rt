@@ -1,0 +1,5 @@
+mod decodable;
+pub mod decode;
+mod escape;
+mod newline;
+pub mod undecoded;
