@@ -68,7 +68,7 @@ fn is_base(m: Mantissa) -> bool
     }
 }
 
-// The first digit of a number.
+// A number's first digit, or 0 before a dot that stands first.
 fn whole(sign: Sign, digit: u8) -> Mantissa
     ensures { λ r. ⌜ r ≡ whole-of sign digit ⌝ }
 {
