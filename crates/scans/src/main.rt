@@ -5,40 +5,21 @@ ghost use lib.ListN.{length};
 use cut::Cut;
 use cut::CutSource;
 use cut::CutWindowed;
+use hex::unhex;
 use listing::lines::LONGEST;
 use listing::list::list_next;
 use postscript::error::Reason;
 use postscript::scanner::Scanner;
-use reader::class::digit_worth;
 use reader::lent::Lent;
 use reader::source::Fault;
 use reader::source::Source;
 use reader::source::Windowed;
-use std::alloc::AllocError;
-use std::alloc::Global;
 use std::error::AnyError;
 use std::io;
 use std::io::Write;
 
 // The fault in which a cut case ends: of a layer of the tests' own.
 const FAULT: Fault = Fault { layer: 9, cause: 7 };
-
-// The bytes of hexadecimal digits.
-fn unhex(heap: Global, digits: &[u8]) -> Result<Vec<u8>, AllocError> {
-    let mut bytes = Vec::new(heap);
-    let mut high = None;
-    for d in digits {
-        let worth = digit_worth(*d) & 15;
-        match high {
-            None => high = Some(worth),
-            Some(h) => {
-                bytes.push((h & 15) * 16 + worth)?;
-                high = None;
-            }
-        }
-    }
-    Ok(bytes)
-}
 
 // One more call of parse_object, after the listing has ended.
 fn again<S: Windowed>(rt: &LibcRuntime, scanner: &mut Scanner<S>) -> io::Result<()> {

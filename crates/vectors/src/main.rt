@@ -1,6 +1,8 @@
 // Reads a table of cases from standard input, and prints each case that came out wrong and a count
 // for each section. README.md says how a table is written.
 mod numbers;
+mod singles;
+mod texts;
 
 use std::alloc::AllocError;
 use std::alloc::Global;
@@ -12,6 +14,8 @@ use std::io::BufReader;
 #[derive(Clone, Copy)]
 enum Section {
     Numbers,
+    Singles,
+    Texts,
     // cases before the first section, or of one that is not known
     Other,
 }
@@ -20,6 +24,10 @@ impl Section {
     fn named(name: &str) -> Section {
         if name == "numbers" {
             Section::Numbers
+        } else if name == "singles" {
+            Section::Singles
+        } else if name == "texts" {
+            Section::Texts
         } else {
             Section::Other
         }
@@ -28,6 +36,8 @@ impl Section {
     fn name(self) -> &'static str {
         match self {
             Section::Numbers => "numbers",
+            Section::Singles => "singles",
+            Section::Texts => "texts",
             Section::Other => "other",
         }
     }
@@ -36,6 +46,8 @@ impl Section {
     fn answer(self, heap: Global, given: &str) -> Result<String, AllocError> {
         match self {
             Section::Numbers => numbers::answer(heap, given),
+            Section::Singles => singles::answer(heap, given),
+            Section::Texts => texts::answer(heap, given),
             Section::Other => String::from_str(heap, "unknown"),
         }
     }
