@@ -51,7 +51,7 @@ fn raised(c: u64, k: u8) -> Option<u64>
     ensures { λ r. ⌜ Cases r (10 ^ 18 ≤ c * 10 ^ k) (λ n. (n ≡ c * 10 ^ k) × (n < 10 ^ 18)) ⌝ }
 {
     let mut n = c;
-    for i in 0..k {
+    for _ in 0..k {
         n *= 10;
         if n >= MOST {
             return None;
