@@ -1,5 +1,5 @@
 #!/usr/bin/env python3
-"""Writes the number section of the table that this program reads: `python3 make_numbers.py > stdin`.
+"""Prints the section of number runs: a run, a tab, and its reading.
 
 Each run is classified from the rules for number runs alone, by regular expressions and whole
 numbers of any size:

@@ -11,7 +11,7 @@ use Rattle.vectors.proofs.numbers.answer.Needs as need
 
 pub returns : need.returns
 returns c =
-    let e : lent-at (c .new-source .result) ≡ lent (c .args .run .now) = c .new-source .ensures ∙ ap lent (c .as-bytes .ensures .value) in
+    let e : lent-at (c .new-source .result) ≡ lent (c .args .run .now) = c .new-source .ensures .means ∙ ap lent (c .as-bytes .ensures .value) in
     subst (λ w. made (c .show .result) (λ s. string-bytes s ≡ words w))
     (sym (reading-is (c .read-reading .ensures .reads)) ∙ ap (λ m. reading (front regular (m .to-come))) e)
     (c .show .ensures)

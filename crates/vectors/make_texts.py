@@ -1,5 +1,5 @@
 #!/usr/bin/env python3
-"""Writes texts.txt: literal texts, and what each decodes to.
+"""Prints the section of texts: literal texts, and what each decodes to.
 
 A line is a case: the text's bytes in hexadecimal, a tab, and the decoded bytes in hexadecimal, or
 the word lone for a text that ends in a backslash with nothing to escape.
@@ -13,12 +13,13 @@ literal strings and not the scanner's code:
   to three octal digits.
 - One substitution replaces every piece by what it stands for.
 
-Run in this folder: python3 make_texts.py. The texts that are not written out below are drawn from a
-fixed seed, so the file comes out the same each time.
+The texts that are not written out below are drawn from a fixed seed, so the section comes out the
+same each time.
 """
 
 import random
 import re
+import sys
 
 NEWLINE = rb"\r\n|\r|\n"
 ESCAPES = re.compile(rb"(?:[^\\]|\\.)*", re.DOTALL)
@@ -144,8 +145,8 @@ def line(text):
 def main():
     for text, plain in KNOWN:
         assert decoded(text) == plain, (text, plain, decoded(text))
-    with open("texts.txt", "w", encoding="ascii", newline="\n") as out:
-        out.writelines(line(text) for text in texts())
+    sys.stdout.write("# texts\n")
+    sys.stdout.writelines(line(text) for text in texts())
 
 
 if __name__ == "__main__":

@@ -1,6 +1,6 @@
 #!/usr/bin/env python3
-"""Prints the cases of singles.txt: a run, a tab, and the eight hex digits of the
-nearest single's bits, or `far`.
+"""Prints the section of singles: a run, a tab, and the eight hex digits of the nearest
+single's bits, or `far`.
 
 Nothing here rounds by a float. A run is taken apart into its sign, c and k, and
 c * 10^k is an exact Fraction. A single without its sign is worth a whole number
@@ -187,5 +187,6 @@ def cases():
                 yield run
 
 
+print("# singles")
 for case in cases():
     print(case, answer(case), sep="\t")
