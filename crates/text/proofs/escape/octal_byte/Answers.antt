@@ -5,4 +5,4 @@ use Rattle.text.proofs.escape.octal_byte.Needs as need
 pub loop-b-holds : need.loop-b-holds
 loop-b-holds g c =
     let (l, m) = octal-most (c .args .digit) (c .pre) in
-    (octal-more-is (c .args .digit) (g .S·Source .meaning (c .args .source .now) .to-come) (c .pre), omega arith, omega arith, λ _. omega arith, λ _. omega arith, omega arith)
+    (octal-more-is (c .args .digit) (g .S·Source .meaning (c .args .source .now) .to-come) (c .pre), omega arith, omega arith, λ _. omega arith, λ _. omega arith, omega arith, omega arith)
