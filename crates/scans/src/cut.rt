@@ -1,3 +1,4 @@
+ghost use mathlib.Core.Path.{_≡_};
 ghost use Rattle.std.specs.declared.option.Option.the-variants.{None};
 ghost use Rattle.scans.specs.Cuts.{«cut-at», «cut-limited»};
 use reader::lent::Lent;
@@ -16,7 +17,9 @@ pub struct Cut<'a> {
 }
 
 impl<'a> Cut<'a> {
-    pub fn new(lent: Lent<'a>, fault: Option<Fault>) -> Cut<'a> {
+    pub fn new(lent: Lent<'a>, fault: Option<Fault>) -> Cut<'a>
+        ensures { λ r. ⌜ (r .lent ≡ lent .entry) × (r .fault ≡ fault) ⌝ }
+    {
         Cut { lent, fault }
     }
 }

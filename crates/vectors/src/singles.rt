@@ -8,7 +8,7 @@ use std::alloc::AllocError;
 use std::alloc::Global;
 
 // What parse_number hands over for a real: the bits of a single in hexadecimal digits, or `far`.
-pub fn answer(heap: Global, run: &str) -> Result<String, AllocError> {
+pub(crate) fn answer(heap: Global, run: &str) -> Result<String, AllocError> {
     let mut scanner = Scanner::new(Lent::new(run.as_bytes()));
     match scanner.parse_number() {
         Ok(Number::Real(x)) => {

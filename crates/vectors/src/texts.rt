@@ -7,7 +7,7 @@ use std::alloc::AllocError;
 use std::alloc::Global;
 
 // What a text in hexadecimal digits decodes to, in a buffer exactly as long; `lone` is refusal 9.
-pub fn answer(heap: Global, digits: &str) -> Result<String, AllocError> {
+pub(crate) fn answer(heap: Global, digits: &str) -> Result<String, AllocError> {
     let text = unhex(heap, digits.as_bytes())?;
     let mut buffer = unhex(heap, digits.as_bytes())?;
     match decode_into(&Lent::new(&text), &mut buffer) {
