@@ -1,8 +1,7 @@
 -- What the first pass found, and what was written, settle the decoder's answer. Assumes nothing.
-use mathlib.Core.Bool.{true, false}
 use mathlib.Core.List.{List, _++_}
 use mathlib.Core.Path.{_≡_, refl, sym, ap, subst, subst₂, _∙_}
-use Prim.Native.Nat.{ℕ, _≤_, _<_}
+use Prim.Native.Nat.{ℕ, _≤_}
 use native.Mathlib.Omega.{arith}
 use lib.ListN.{length, drop, length-append}
 use Rattle.std.specs.Results.{Cases}
@@ -17,7 +16,7 @@ use Rattle.text.specs.declared.undecoded.Undecoded.{Undecoded}
 use Rattle.text.specs.declared.undecoded.Undecoded.the-variants.{Fault, LoneBackslash, ShortBuffer}
 use Rattle.text.specs.Answers.{told, Decodable, Decoded}
 
--- at another ending that is the same
+-- an ending that is known
 ends : {buffer text after : List ℕ} {place : ℕ} {e f : Ending} {t : Told} → e ≡ f → Decodes-into buffer text place f t after → Decodes-into buffer text place e t after
 ends {buffer} {text} {after} {place} {t = t} e x = subst (λ w. Decodes-into buffer text place w t after) (sym e) x
 
@@ -34,7 +33,7 @@ wrote buffer after m n h e k =
     let x : Decodes-into buffer (m .to-come) (m .place) clean (decoded (length d)) (d ++ drop (length d) buffer) = Decodes-into.writes d (decodes-as (m .to-come) (T-from (paired (m .to-come)) (h .1))) (h .2) in
     ends (h .0) (subst₂ (λ c l. Decodes-into buffer (m .to-come) (m .place) clean (decoded c) l) (sym e) (sym (k ∙ ap (λ c. d ++ drop c buffer) e)) x)
 
--- either
+-- one or the other
 pub settled : (buffer : List ℕ) (m : Meaning) (r : Result ℕ Undecoded) (after : List ℕ) → Decoded buffer m r after → Decodes-source buffer m (told (m .place) r) after
 settled buffer m (Ok n) after h = wrote buffer after m n (h .0) (h .1) (h .2)
 settled buffer m (Err why) after h = subst (λ l. Decodes-source buffer m (told (m .place) (Err why)) l) (sym (h .1)) (refused buffer m why (h .0))

@@ -1,4 +1,3 @@
-ghost use lib.ListN.{length};
 ghost use Rattle.text.specs.Answers.{Decodable};
 use super::undecoded::Undecoded;
 use reader::source::Ending;
