@@ -1,5 +1,6 @@
 #!/usr/bin/env python3
-"""Prints the section of texts: literal texts, and what each decodes to.
+"""Prints the sections of texts: literal texts, and what each decodes to; then, for a buffer one byte
+shorter than the text, that it is too short, or that the text is lone, which is tested first.
 
 A line is a case: the text's bytes in hexadecimal, a tab, and the decoded bytes in hexadecimal, or
 the word lone for a text that ends in a backslash with nothing to escape.
@@ -147,6 +148,10 @@ def main():
         assert decoded(text) == plain, (text, plain, decoded(text))
     sys.stdout.write("# texts\n")
     sys.stdout.writelines(line(text) for text in texts())
+    sys.stdout.write("# short texts\n")
+    for text in texts():
+        if text:
+            sys.stdout.write(f"{text.hex()}\t{'lone' if decoded(text) is None else 'short'}\n")
 
 
 if __name__ == "__main__":

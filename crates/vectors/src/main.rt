@@ -16,6 +16,7 @@ enum Section {
     Numbers,
     Singles,
     Texts,
+    ShortTexts,
     // cases before the first section, or of one that is not known
     Other,
 }
@@ -28,6 +29,8 @@ impl Section {
             Section::Singles
         } else if name == "texts" {
             Section::Texts
+        } else if name == "short texts" {
+            Section::ShortTexts
         } else {
             Section::Other
         }
@@ -38,6 +41,7 @@ impl Section {
             Section::Numbers => "numbers",
             Section::Singles => "singles",
             Section::Texts => "texts",
+            Section::ShortTexts => "short texts",
             Section::Other => "other",
         }
     }
@@ -48,6 +52,7 @@ impl Section {
             Section::Numbers => numbers::answer(heap, given),
             Section::Singles => singles::answer(heap, given),
             Section::Texts => texts::answer(heap, given),
+            Section::ShortTexts => texts::answer_short(heap, given),
             Section::Other => String::from_str(heap, "unknown"),
         }
     }
