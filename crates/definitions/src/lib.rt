@@ -1,3 +1,5 @@
+#![tactic(auto)]
+
 ghost use Rattle.definitions.specs.Laws.{OneFront, ThereTests, LentInLimit, WindowInLimit, EexecInLimit, StepPasses, ClassPasses, PassedInLimit};
 ghost use Rattle.definitions.specs.Laws.{OneGap, GapComputed, OneReading, ReadingComputed, OneEachGap, OutcomeComputed, TwoExactly};
 ghost use Rattle.definitions.specs.Laws.{DecodesOrEnds, NeverBoth, TextDecodes, OneDecoding, DecodingComputed, OneDecodedSource, OneDecodedObject};

@@ -1,3 +1,5 @@
+#![tactic(auto)]
+
 // Bytes as the tables of cases write them: two hexadecimal digits each.
 use reader::class::digit_worth;
 use std::alloc::{AllocError, Global};

@@ -1,3 +1,5 @@
+#![tactic(auto)]
+
 mod digits;
 pub mod entry;
 mod line;

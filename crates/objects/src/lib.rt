@@ -1,3 +1,5 @@
+#![tactic(auto)]
+
 pub mod array;
 pub mod decode;
 pub mod error;

@@ -1,3 +1,5 @@
+#![tactic(auto)]
+
 pub mod array;
 mod read;
 pub mod scanner;

@@ -1,3 +1,5 @@
+#![tactic(auto)]
+
 pub mod class;
 pub mod lent;
 pub mod source;

@@ -1,3 +1,5 @@
+#![tactic(auto)]
+
 mod cut;
 
 ghost use Rattle.std.specs.Prelude.{◌≤◌, length};

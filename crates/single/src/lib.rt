@@ -1,3 +1,5 @@
+#![tactic(auto)]
+
 pub mod nearest;
 pub mod number;
 mod rounding;

@@ -1,3 +1,5 @@
+#![tactic(auto)]
+
 pub mod array;
 pub mod gap;
 pub mod open;

@@ -1,3 +1,5 @@
+#![tactic(auto)]
+
 mod decodable;
 pub mod decode;
 mod escape;

@@ -1,3 +1,5 @@
+#![tactic(auto)]
+
 // Reads a table of cases from standard input, and prints each case that came out wrong and a count
 // for each section. README.md says how a table is written.
 mod numbers;

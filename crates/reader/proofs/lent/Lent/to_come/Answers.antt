@@ -8,7 +8,7 @@ pub returns-then-at-self : goal.returns-then-at-self
 returns-then-at-self c =
     let at = c.args.self.now.at in
     let bs = c.args.self.now.bytes.now in
-    record { bytes = rw (le-leb (length bs) 4294967295 (omega arith)) (take_rest bs at); lies = λ p. ap (λ i. Some (c.args.self.now.bytes.ptr.0, i)) (add_comm at c.args.self.now.bytes.ptr.1) }
+    record { bytes = rw (le-leb (length bs) 4294967295 (omega arith)) (take_rest bs at); lies = λ p. ap (λ i. Some (c.args.self.now.bytes.ref_ptr.0, i)) (add_comm at c.args.self.now.bytes.ref_ptr.1) }
 
 pub returns-else-self-le-LIMIT : goal.returns-else-self-le-LIMIT
 returns-else-self-le-LIMIT c =

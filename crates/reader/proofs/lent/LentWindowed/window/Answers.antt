@@ -20,8 +20,8 @@ returns-then-end-self c =
     let e : at + n - at ≡ n = omega arith in
     let p : take (at + n - at) (drop at bs) ≡ take n (drop at bs) = ap (λ k. take k (drop at bs)) e in
     let k : length (take (at + n - at) (drop at bs)) ≤ 4294967295 = simp (length-take, length-drop) (omega arith) in
-    let a : at + c.args.self.now.bytes.ptr.1 ≡ c.args.self.now.bytes.ptr.1 + min at 4294967295 = omega arith in
-    record { means = windows at n bs (take (at + n - at) (drop at bs)) (omega arith) k p; lies = λ x h. ap (λ i. Some (c.args.self.now.bytes.ptr.0, i)) a }
+    let a : at + c.args.self.now.bytes.ref_ptr.1 ≡ c.args.self.now.bytes.ref_ptr.1 + min at 4294967295 = omega arith in
+    record { means = windows at n bs (take (at + n - at) (drop at bs)) (omega arith) k p; lies = λ x h. ap (λ i. Some (c.args.self.now.bytes.ref_ptr.0, i)) a }
 
 pub returns-then-at-self : goal.returns-then-at-self
 returns-then-at-self c =
