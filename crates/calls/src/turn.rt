@@ -1,7 +1,7 @@
 use super::call::Call;
 use objects::error::Refusal;
 use objects::object::Object;
-use single::number::Number;
+use single::value::Number;
 
 // What a call answers. The typed parsers of names, strings and arrays hand over objects, as
 // parse_object does.

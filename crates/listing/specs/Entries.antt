@@ -5,7 +5,7 @@ use Rattle.definitions.specs.PlainReader.{Answer, object, refusal, yes_no, Piece
 use Rattle.definitions.specs.Sources.{Meaning}
 use Rattle.objects.specs.Objects.{as_handed}
 use Rattle.objects.specs.Refusals.{number_of, fault_of}
-use Rattle.definitions.specs.Decoder.{decoded}
+use Rattle.definitions.specs.Decoder.{Told, decoded, turned_down}
 use Rattle.objects.specs.declared.error.Reason.TheVariants.{ShortBuffer}
 use Rattle.objects.specs.declared.error.Refusal.{Refusal}
 use Rattle.listing.specs.declared.entry.Written.{Written}
@@ -31,6 +31,11 @@ refusal_line r = line 0 (refusal (number_of r.reason) r.place (fault_of r.reason
 -- the bytes of its line
 abbrev pub line_of : {I : Type 0} → (I → Meaning) → Entry I → List ℕ
 line_of meaning e = line (place_of e) (answer_of meaning e)
+
+-- what a call that writes a line answers: the line's length, or a refusal
+abbrev pub told : Result ℕ Refusal → Told
+told (Ok n) = decoded n
+told (Err r) = turned_down (number_of r.reason) r.place (fault_of r.reason)
 
 -- an entry is what comes next of a source: the end, or what stands after the gap
 abbrev pub ComesNext : {I : Type 0} → (I → Meaning) → Meaning → Meaning → Entry I → Type 0

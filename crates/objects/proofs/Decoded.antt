@@ -7,7 +7,7 @@ use Rattle.definitions.proofs.Total.{accepts_so}
 use Rattle.text.specs.Answers.{told}
 use Rattle.text.specs.declared.undecoded.Undecoded.{Undecoded}
 use Rattle.text.specs.declared.undecoded.Undecoded.TheVariants as text
-use Rattle.objects.specs.Decoding.{reason_of, count_told, text_of_form, text_of, TextDecodes}
+use Rattle.objects.specs.Decoding.{reason_of, decoder_told, text_of_form, text_of, TextDecodes}
 use Rattle.objects.specs.Objects.{kind_number, name_kind, string_kind, kind_of, part_of}
 use Rattle.objects.specs.declared.error.Reason.{Reason}
 use Rattle.objects.specs.declared.error.Reason.TheVariants.{OtherType, Unsupported}
@@ -29,18 +29,18 @@ elsewhere q (DecodesInto.too_short d x h) = DecodesInto.too_short d x h
 elsewhere q (DecodesInto.writes d x h) = DecodesInto.writes d x h
 
 -- text was decoded, and the count is handed on
-pub counted : {buffer text after : List ℕ} {p : ℕ} {e : Ending} (q n : ℕ) → DecodesInto buffer text p e (told p (Ok n)) after → DecodesInto buffer text q e (count_told (Ok n)) after
+pub counted : {buffer text after : List ℕ} {p : ℕ} {e : Ending} (q n : ℕ) → DecodesInto buffer text p e (told p (Ok n)) after → DecodesInto buffer text q e (decoder_told (Ok n)) after
 counted q n x = elsewhere q x
 
 -- text was refused, and the refusal is given a place
-pub placed : {buffer text after : List ℕ} {p : ℕ} {e : Ending} (q : ℕ) (why : Undecoded) → DecodesInto buffer text p e (told p (Err why)) after → DecodesInto buffer text q e (count_told (Err (record { place = q; reason = reason_of why }))) after
+pub placed : {buffer text after : List ℕ} {p : ℕ} {e : Ending} (q : ℕ) (why : Undecoded) → DecodesInto buffer text p e (told p (Err why)) after → DecodesInto buffer text q e (decoder_told (Err (record { place = q; reason = reason_of why }))) after
 placed q (text.Fault f) x = elsewhere q x
 placed q text.LoneBackslash x = elsewhere q x
 placed q text.ShortBuffer x = elsewhere q x
 
 -- a string, by its form; an object
 abbrev Held : {I : Type 0} → (I → Meaning) → List ℕ → ℕ → ℕ → I → Result ℕ Refusal → List ℕ → Type 0
-Held meaning buffer kind start i r after = DecodesHeld buffer kind start (meaning i) (count_told r) after
+Held meaning buffer kind start i r after = DecodesHeld buffer kind start (meaning i) (decoder_told r) after
 
 refused : {I : Type 0} (meaning : I → Meaning) {buffer after : List ℕ} (kind start : ℕ) (i : I) (why : Reason) {r : Result ℕ Refusal} → (r ≡ Err (record { place = start; reason = why })) × (after ≡ buffer)
     → Held meaning buffer kind start i (Err (record { place = start; reason = why })) buffer → Held meaning buffer kind start i r after

@@ -7,7 +7,7 @@ use Rattle.definitions.specs.Singles.{Nearest, infinite, sign_bit, size}
 use Rattle.definitions.specs.Sources.{Ending, clean, Meaning}
 use Rattle.single.proofs.Cut.{bits_back}
 use Rattle.objects.specs.Objects.{kind_number, kind_of, value_of, part_of, as_handed}
-use Rattle.objects.specs.Answers.{refused_by, NumberIn}
+use Rattle.objects.specs.Answers.{NumberIn}
 use Rattle.objects.specs.Refusals.{number_of, fault_of}
 use Rattle.objects.specs.declared.error.Reason.{Reason}
 use Rattle.objects.specs.declared.error.Reason.TheVariants.{OtherType}
@@ -35,19 +35,19 @@ module _ {I : Type 0} where
   past_reals (Real p d) e = let z : ◌≡◌ {A = ℕ} 0 1 = cc in omega arith
   past_reals (Name n) e = named n.literal
     where
-      named : (b : Bool) → 3 ≤ kind_number (Rattle.objects.specs.Objects.name-kind b)
+      named : (b : Bool) → 3 ≤ kind_number (Rattle.objects.specs.Objects.name_kind b)
       named false = omega arith
       named true = omega arith
   past_reals (String s) e = strung s.form
     where
-      strung : (f : Form) → 3 ≤ kind_number (Rattle.objects.specs.Objects.string-kind f)
+      strung : (f : Form) → 3 ≤ kind_number (Rattle.objects.specs.Objects.string_kind f)
       strung Literal = omega arith
       strung Hex = omega arith
       strung Ascii85 = omega arith
   past_reals (Array a) e = omega arith
 
-  pub no_number : (x : Object I) → value_of x ≡ none → NumberIn x (Err (refused_by OtherType x))
-  no_number x e o k v = other_type (λ a. let (l, m) = one_or_two a refl in let h = past_reals x e in omega (arith, k))
+  pub no_number : (x : Object I) → value_of x ≡ none → NumberIn x (Err OtherType)
+  no_number x e o at k v = other_type (λ a. let (l, m) = one_or_two a refl in let h = past_reals x e in omega (arith, k))
 
   pub an_integer : (x : Object I) (n : ℤ) → kind_number (kind_of x) ≡ 1 → value_of x ≡ integer_value n → (o : Shown) (at : ℕ) → o.kind ≡ kind_number (kind_of x) → o.value ≡ value_of x → Judges parse_number at o (integer_number n)
   an_integer x n t e o at k v = whole (subst (Accepts parse_number) (sym (k ∙ t)) integers) (v ∙ e)

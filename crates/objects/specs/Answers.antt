@@ -1,11 +1,11 @@
 -- What the parsers answer of an object, as the code holds it and as the plain reader gives it. Assumes nothing.
-use Rattle.std.specs.Prelude.{◌≡◌, Ok, Err, Result, to_bits}
+use Rattle.std.specs.Prelude.{◌≡◌, ℕ, Ok, Err, Result, to_bits}
 use Rattle.std.specs.Float.{binary32}
 use Rattle.definitions.specs.Grammar.{Shown}
 use Rattle.definitions.specs.PlainReader.{parse_number, Answer, object, integer_number, real_number, refusal, Judges}
 use Rattle.definitions.specs.Sources.{Meaning}
-use Rattle.single.specs.declared.number.Number.{Number}
-use Rattle.single.specs.declared.number.Number.TheVariants as number
+use Rattle.single.specs.declared.value.Number.{Number}
+use Rattle.single.specs.declared.value.Number.TheVariants as number
 use Rattle.objects.specs.Objects.{kind_number, kind_of, part_of, value_of, as_handed}
 use Rattle.objects.specs.Refusals.{number_of, fault_of}
 use Rattle.objects.specs.declared.array.Array.{Array}
@@ -21,28 +21,28 @@ use Rattle.objects.specs.declared.string.String.{String}
 abbrev pub as_refusal : Refusal → Answer
 as_refusal r = refusal (number_of r.reason) r.place (fault_of r.reason)
 
--- an answer of a parser that hands over objects
+-- an answer of parse_object, as the plain reader gives it
 abbrev pub answered : {I : Type 0} → (I → Meaning) → Result (Object I) Refusal → Answer
 answered meaning (Ok x) = Rattle.definitions.specs.PlainReader.object (as_handed meaning x)
-answered meaning (Err r) = as_refusal r
+answered meaning (Err r) = refusal (number_of r.reason) r.place (fault_of r.reason)
 
--- a number: a float by its bits
+-- an answer of parse_number: a float by its bits
 abbrev pub numbered : Number → Answer
 numbered (number.Integer n) = integer_number n
 numbered (number.Real x) = real_number (to_bits binary32 x)
 
--- an answer of parse_number
 abbrev pub number_answered : Result Number Refusal → Answer
 number_answered (Ok n) = numbered n
-number_answered (Err r) = as_refusal r
+number_answered (Err r) = refusal (number_of r.reason) r.place (fault_of r.reason)
+
+-- what parse_number answers of an object, wherever it stands
+abbrev pub NumberIn : {I : Type 0} → Object I → Result Number Reason → Type 0
+NumberIn x (Ok n) = (o : Shown) (at : ℕ) → o.kind ≡ kind_number (kind_of x) → o.value ≡ value_of x → Judges parse_number at o (numbered n)
+NumberIn x (Err e) = (o : Shown) (at : ℕ) → o.kind ≡ kind_number (kind_of x) → o.value ≡ value_of x → Judges parse_number at o (refusal (number_of e) at (fault_of e))
 
 -- an object refused at its start
 abbrev pub refused_by : {I : Type 0} → Reason → Object I → Refusal
 refused_by why x = record { place = (part_of x).start; reason = why }
-
--- what parse_number answers of an object
-abbrev pub NumberIn : {I : Type 0} → Object I → Result Number Refusal → Type 0
-NumberIn x r = (o : Shown) → o.kind ≡ kind_number (kind_of x) → o.value ≡ value_of x → Judges parse_number (part_of x).start o (number_answered r)
 
 -- a name as it is; any other object is of another type
 abbrev pub name_in : {I : Type 0} → Object I → Result (Name I) Refusal

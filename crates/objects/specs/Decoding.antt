@@ -20,10 +20,10 @@ reason_of (text.Fault f) = Fault f
 reason_of text.LoneBackslash = LoneBackslash
 reason_of text.ShortBuffer = ShortBuffer
 
--- the answer of a call that writes: how many bytes, or a refusal by its number and place, with its fault
-abbrev pub count_told : Result ℕ Refusal → Told
-count_told (Ok count) = decoded count
-count_told (Err r) = turned_down (number_of r.reason) r.place (fault_of r.reason)
+-- the decoder's answer: how many bytes it wrote, or a refusal by its number and place, with its fault
+abbrev pub decoder_told : Result ℕ Refusal → Told
+decoder_told (Ok count) = decoded count
+decoder_told (Err r) = turned_down (number_of r.reason) r.place (fault_of r.reason)
 
 -- the text inside a string of a form: 6 where it is no literal string
 abbrev pub text_of_form : {I : Type 0} → Form → I → Result I Reason
@@ -44,5 +44,5 @@ text_of (object.Array a) = Err OtherType
 
 -- an object's text is decoded; one that has none is refused at its start, and the buffer stays
 abbrev pub TextDecodes : {I : Type 0} → (I → Meaning) → List ℕ → ℕ → Result I Reason → Result ℕ Refusal → List ℕ → Type 0
-TextDecodes meaning buffer start (Ok i) r after = DecodesInto buffer (meaning i).to_come start (meaning i).ending (count_told r) after
+TextDecodes meaning buffer start (Ok i) r after = DecodesInto buffer (meaning i).to_come start (meaning i).ending (decoder_told r) after
 TextDecodes meaning buffer start (Err why) r after = (r ≡ Err (record { place = start; reason = why })) × (after ≡ buffer)

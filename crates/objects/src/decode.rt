@@ -1,6 +1,6 @@
 ghost use Rattle.std.specs.Prelude.{◌≡◌, ◌≤◌, length, IfOk};
 ghost use Rattle.definitions.specs.Decoder.{DecodesSource, DecodesInto, DecodesHeld};
-ghost use Rattle.objects.specs.Decoding.{reason_of, count_told, text_of_string, text_of, TextDecodes};
+ghost use Rattle.objects.specs.Decoding.{reason_of, decoder_told, text_of_string, text_of, TextDecodes};
 ghost use Rattle.objects.specs.Objects.{kind_of, kind_number, part_of, string_kind};
 
 use super::error::{Reason, Refusal};
@@ -22,7 +22,7 @@ fn reason(why: Undecoded) -> Reason
 
 // Decodes the bytes to come of a source as literal text; a refusal is at the place that is given.
 fn decode_at<S: Source>(source: &S, place: u32, buffer: &mut [u8]) -> Result<usize, Refusal>
-    ensures text { DecodesInto buffer.old (S.Source.meaning source.now).to_come place (S.Source.meaning source.now).ending (count_told result) buffer.new }
+    ensures text { DecodesInto buffer.old (S.Source.meaning source.now).to_come place (S.Source.meaning source.now).ending (decoder_told result) buffer.new }
     ensures room { IfOk result (λ n. n ≤ length buffer.new) }
 {
     match decode(source, buffer) {
@@ -56,7 +56,7 @@ fn decode_held<I: Source>(
 // many bytes that gives; the bytes past them stay. The source does not move. A refusal, at the place
 // of the source, leaves the whole buffer as it was.
 pub fn decode_into<S: Source>(source: &S, buffer: &mut [u8]) -> Result<usize, Refusal>
-    ensures text { DecodesSource buffer.old (S.Source.meaning source.now) (count_told result) buffer.new }
+    ensures text { DecodesSource buffer.old (S.Source.meaning source.now) (decoder_told result) buffer.new }
     ensures room { IfOk result (λ n. n ≤ length buffer.new) }
 {
     decode_at(source, source.place(), buffer)
@@ -75,7 +75,7 @@ impl<I: Source> String<I> {
 
     // Decodes the text inside, as `decode_into` does a source's; a refusal is at the string's start.
     pub fn decode_into(&self, buffer: &mut [u8]) -> Result<usize, Refusal>
-        ensures text { DecodesHeld buffer.old (kind_number (string_kind self.now.form)) self.now.part.start (I.Source.meaning self.now.part.inside) (count_told result) buffer.new }
+        ensures text { DecodesHeld buffer.old (kind_number (string_kind self.now.form)) self.now.part.start (I.Source.meaning self.now.part.inside) (decoder_told result) buffer.new }
         ensures room { IfOk result (λ n. n ≤ length buffer.new) }
     {
         decode_held(self.text(), self.part.start, buffer)
@@ -95,7 +95,7 @@ impl<I: Source> Object<I> {
 
     // Decodes the text of a literal string; any other object is refused, at its start.
     pub fn decode_into(&self, buffer: &mut [u8]) -> Result<usize, Refusal>
-        ensures text { DecodesHeld buffer.old (kind_number (kind_of self.now)) (part_of self.now).start (I.Source.meaning (part_of self.now).inside) (count_told result) buffer.new }
+        ensures text { DecodesHeld buffer.old (kind_number (kind_of self.now)) (part_of self.now).start (I.Source.meaning (part_of self.now).inside) (decoder_told result) buffer.new }
         ensures room { IfOk result (λ n. n ≤ length buffer.new) }
     {
         decode_held(self.text(), self.part().start, buffer)

@@ -10,7 +10,7 @@ use super::part::Part;
 use super::string::String;
 use number::decimal::Decimal;
 use single::nearest::nearest;
-use single::number::Number;
+use single::value::Number;
 
 // An object. Over lent bytes its inside is that part of the bytes itself; over any other source it
 // is a window.
@@ -61,16 +61,16 @@ impl<I: Copy> Object<I> {
 
     // The number of an integer or of a near real. A far real is past the limits of a single, and any
     // other object is of another type.
-    pub fn number(&self) -> Result<Number, Refusal>
+    pub fn number(&self) -> Result<Number, Reason>
         ensures { NumberIn self.now result }
     {
         match self {
             Object::Integer(_, n) => Ok(Number::Integer(*n)),
             Object::Real(_, real) => match nearest(real) {
                 Some(x) => Ok(Number::Real(x)),
-                None => Err(self.refused(Reason::PastLimits)),
+                None => Err(Reason::PastLimits),
             },
-            _ => Err(self.refused(Reason::OtherType)),
+            _ => Err(Reason::OtherType),
         }
     }
 

@@ -6,8 +6,7 @@ use Rattle.definitions.specs.Sources.{Meaning}
 use Rattle.definitions.proofs.Rejudged.{rejudged}
 use Rattle.definitions.proofs.Total.{so_accepts, accepts_so}
 use Rattle.reader.specs.Addresses.{Address}
-use Rattle.single.specs.declared.number.Number.{Number}
-use Rattle.objects.specs.Answers.{answered, number_answered, as_refusal, refused_by, NumberIn, name_in, string_in, array_in, as_name, as_string, as_array}
+use Rattle.objects.specs.Answers.{answered, as_refusal, refused_by, name_in, string_in, array_in, as_name, as_string, as_array}
 use Rattle.objects.specs.Objects.{kind_number, name_kind, string_kind, kind_of, part_of, value_of, as_handed}
 use Rattle.objects.specs.declared.error.Reason.TheVariants.{OtherType}
 use Rattle.objects.specs.declared.error.Refusal.{Refusal}
@@ -101,9 +100,9 @@ module _ {I : Type 0} where
     )
 
     -- by parse-number
-    pub number_turn : (x : Object I) (r : Result Number Refusal) → NumberIn x r
-        → (ps : List Piece) × Turn s (parses parse_object) (answered meaning (Ok x)) ps t → (ps : List Piece) × Turn s (parses parse_number) (number_answered r) ps t
-    number_turn x r h = object_turn parse_number x (number_answered r) (λ o e. h o (ap (λ (v : Handed). v.kind) e) (ap (λ (v : Handed). v.value) e))
+    pub number_turn : (x : Object I) (a : Answer) → ((o : Shown) → o.kind ≡ kind_number (kind_of x) → o.value ≡ value_of x → Judges parse_number (part_of x).start o a)
+        → (ps : List Piece) × Turn s (parses parse_object) (answered meaning (Ok x)) ps t → (ps : List Piece) × Turn s (parses parse_number) a ps t
+    number_turn x a f = object_turn parse_number x a (λ o e. f o (ap (λ (v : Handed). v.kind) e) (ap (λ (v : Handed). v.value) e))
 
     -- by any other
     pub typed_turn : (p : Parser) → (p ≡ parse_number → ⊥) → (x : Object I)

@@ -10,7 +10,7 @@ use objects::name::Name;
 use objects::object::Object;
 use objects::string::String;
 use reader::source::{Ending, Source, Windowed};
-use single::number::Number;
+use single::value::Number;
 use syntax::gap::pass_gap;
 
 // A scanner: it reads one object after the other from its source.
@@ -62,7 +62,13 @@ impl<S: Windowed> Scanner<S> {
         ensures lies { S.Source.lies self.new.source ≡ S.Source.lies self.old.source }
     {
         let object = self.parse_object()?;
-        object.number()
+        match object.number() {
+            Ok(number) => Ok(number),
+            Err(reason) => Err(Refusal {
+                place: object.part().start,
+                reason,
+            }),
+        }
     }
 
     // The name after the gap. An object that is none is passed, and refused at its start.

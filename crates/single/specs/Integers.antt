@@ -2,8 +2,8 @@
 use Rattle.std.specs.Prelude.{◌≡◌, ℕ, ℤ, pos, from_bits, to_bits, Float}
 use Rattle.std.specs.Float.{nan, binary32}
 use Rattle.definitions.specs.Singles.{IntegerOf, to_integer}
-use Rattle.single.specs.declared.number.Number.{Number}
-use Rattle.single.specs.declared.number.Number.TheVariants.{Integer, Real}
+use Rattle.single.specs.declared.value.Number.{Number}
+use Rattle.single.specs.declared.value.Number.TheVariants.{Integer, Real}
 
 -- the integer of a float
 pub record IntegerOfFloat (x : Float) (z : ℤ) : Type 0 where

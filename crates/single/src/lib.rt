@@ -1,6 +1,6 @@
 #![tactic(auto)]
 
 pub mod nearest;
-pub mod number;
+pub mod value;
 mod rounding;
 mod worth;

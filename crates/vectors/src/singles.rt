@@ -1,6 +1,6 @@
 use postscript::scanner::Scanner;
 use reader::lent::Lent;
-use single::number::{Number, to_bits};
+use single::value::{Number, to_bits};
 use std::alloc::{AllocError, Global};
 
 // What parse_number hands over for a real: the bits of a single in hexadecimal digits, or `far`.

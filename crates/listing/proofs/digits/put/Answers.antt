@@ -11,4 +11,4 @@ returns c =
     let buffer = c.args.buffer.now in
     let n : at + length text - at ≡ length text = omega arith in
     let rest : drop (at + length text - at) (drop at buffer) ≡ drop (at + length text) buffer = ap (λ k. drop k (drop at buffer)) n ∙ drop-drop (length text) at buffer in
-    subst (λ l. Appends text buffer at l (at + length text)) (sym (ap₂ (λ x y. take at buffer ++ (x ++ y)) c.copy-from-slice.ensures.after rest)) (written text buffer at)
+    subst (λ l. Appends text buffer at l (at + length text)) (sym (ap₂ (λ x y. take at buffer ++ (x ++ y)) c.copy_from_slice.ensures.after rest)) (written text buffer at)

@@ -2,11 +2,11 @@ use Rattle.std.proofs.Common.{arith}
 use Rattle.listing.proofs.Growing.{then, end_length}
 use Rattle.listing.proofs.line.put_end.Goals as goal
 
-pub put-decimal-after-place-requires : goal.put-decimal-after-place-requires
-put-decimal-after-place-requires c = omega (arith, end_length c.args.place, c.requires, c.put-after-word.ensures.end)
+pub put_decimal-after_place-requires : goal.put_decimal-after_place-requires
+put_decimal-after_place-requires c = omega (arith, end_length c.args.place, c.requires, c.put-after_word.ensures.end)
 
 pub put-requires : goal.put-requires
-put-requires c = omega (arith, end_length c.args.place, c.requires, c.put-after-word.ensures.end, c.put-decimal-after-place.ensures.end)
+put-requires c = omega (arith, end_length c.args.place, c.requires, c.put-after_word.ensures.end, c.put_decimal-after_place.ensures.end)
 
 pub returns : goal.returns
-returns c = then c.put-after-word.ensures (then c.put-decimal-after-place.ensures c.put.ensures)
+returns c = then c.put-after_word.ensures (then c.put_decimal-after_place.ensures c.put.ensures)

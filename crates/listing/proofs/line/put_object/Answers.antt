@@ -10,6 +10,6 @@ returns g c =
     let o = c.args.taken.now in
     let q : c.number.result ≡ kind_number (kind_of o) = c.number.ensures ∙ ap kind_number c.kind.ensures in
     let v = value_text (length (g.I.Source.meaning (part_of o).inside).to_come) (value_of o) in
-    let head = rw (q, c.part-part.ensures) at c.put-head-after-head.ensures.text in
+    let head = rw (q, c.part-part.ensures) at c.put_head-after_head.ensures.text in
     subst (λ t. Appends t c.args.buffer.now 0 c.put.new.buffer c.put.result) (three_fields (kind_number (kind_of o)) (part_of o).start (part_of o).end (v ++ (10 ∷ [])))
-    (then head (then c.put-value-after-value.ensures.text c.put.ensures))
+    (then head (then c.put_value-after_value.ensures.text c.put.ensures))

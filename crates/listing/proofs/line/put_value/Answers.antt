@@ -6,13 +6,13 @@ use Rattle.objects.specs.Objects.{part_of, value_of}
 use Rattle.listing.specs.Appending.{Appends}
 use Rattle.listing.proofs.line.put_value.Goals as goal
 
-pub put-real-requires : goal.put-real-requires
-put-real-requires g c =
+pub put_real-requires : goal.put_real-requires
+put_real-requires g c =
     let d = c.in-Real.d in
     let f : SFits w64 c.from-in-Real.result = search rules in
     let s : SFits w8 c.k.result = search rules in
     let k : to_z w64 (of_z w64 c.from-in-Real.result) ≡ d.k = to_z-of_z f ∙ c.from-in-Real.ensures ∙ to_z-of_z s ∙ c.k.ensures in
-    rw (c.is-negative.ensures, c.c.ensures, k) (omega (arith, value_length 0 (real_value d.negative d.c d.k) (omega arith) (d.digits, d.low, d.high)))
+    rw (c.is_negative.ensures, c.c.ensures, k) (omega (arith, value_length 0 (real_value d.negative d.c d.k) (omega arith) (d.digits, d.low, d.high)))
 
 pub returns-in-Real : goal.returns-in-Real
 returns-in-Real g c =
@@ -20,7 +20,7 @@ returns-in-Real g c =
     let f : SFits w64 c.from-in-Real.result = search rules in
     let s : SFits w8 c.k.result = search rules in
     let k : to_z w64 (of_z w64 c.from-in-Real.result) ≡ d.k = to_z-of_z f ∙ c.from-in-Real.ensures ∙ to_z-of_z s ∙ c.k.ensures in
-    let t = rw (c.is-negative.ensures, c.c.ensures, k) at c.put-real.ensures in
+    let t = rw (c.is_negative.ensures, c.c.ensures, k) at c.put_real.ensures in
     record {
       text = rw c.in-Real.is t;
       short = omega (arith, t.end, value_length 0 (real_value d.negative d.c d.k) (omega arith) (d.digits, d.low, d.high));

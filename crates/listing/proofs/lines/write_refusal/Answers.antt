@@ -9,5 +9,5 @@ returns-then-buffer-lt-LONGEST c = record { line = WritesLine.too_short c.if-buf
 
 pub returns : goal.returns
 returns c =
-    let w = whole_line c.if-buffer-lt-LONGEST.false (rw c.number.ensures at c.put-refusal-end.ensures) in
-    record { line = w; room = told_length _ _ c.put-refusal-end.result _ _ w refl }
+    let w = whole_line c.if-buffer-lt-LONGEST.false (rw c.number.ensures at c.put_refusal-end.ensures) in
+    record { line = w; room = told_length _ _ c.put_refusal-end.result _ _ w refl }

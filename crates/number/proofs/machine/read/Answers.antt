@@ -7,7 +7,7 @@ use Rattle.number.specs.Runs.{as_reading}
 use Rattle.number.proofs.Forms.{run_of}
 use Rattle.number.proofs.Turns.{sound_byte, one_byte, at_end, at_other, at_dead, answers}
 use Rattle.number.proofs.machine.read.Goals as goal
-use Rattle.number.proofs.machine.read.Goals.{in-Some+then-is-dead, then-is-dead-via-then-is-dead, then-is-dead-via-else-is-dead+then-not-contains, in-default}
+use Rattle.number.proofs.machine.read.Goals.{in-Some+then-is_dead, then-is_dead-via-then-is_dead, then-is_dead-via-else-is_dead+then-not-contains, in_default}
 
 pub loop-b-preserved : goal.loop-b-preserved
 loop-b-preserved g c =
@@ -35,10 +35,10 @@ returns g c =
       lies = c.pass.ensures.lies ∙ c.loop-b.invariant.3;
       reads = answers (g.S.Source.meaning c.args.source.now).to_come s (front regular bs) (as_reading c.finish.result) (omega (arith, g.S.Source.limited c.args.source.now)) c.loop-b.invariant.1
           (elim c.match-peek.branch [
-            | in-Some+then-is-dead w ↦ elim w.then-is-dead.branch [
-              | then-is-dead-via-then-is-dead v ↦ at_dead (front regular bs) s (sym {b = dead s} v.if-is-dead.ensures)
-              | then-is-dead-via-else-is-dead+then-not-contains v ↦ at_other w.in-Some.b bs s w.in-Some.ensures (sym {b = regular w.in-Some.b} v.if-not-contains.ensures)
+            | in-Some+then-is_dead w ↦ elim w.then-is_dead.branch [
+              | then-is_dead-via-then-is_dead v ↦ at_dead (front regular bs) s (sym {b = dead s} v.if-is_dead.ensures)
+              | then-is_dead-via-else-is_dead+then-not-contains v ↦ at_other w.in-Some.b bs s w.in-Some.ensures (sym {b = regular w.in-Some.b} v.if-not-contains.ensures)
             ]
-            | in-default w ↦ at_end bs s w.in-default.ensures
+            | in_default w ↦ at_end bs s w.in_default.ensures
           ]) c.finish.ensures;
     }

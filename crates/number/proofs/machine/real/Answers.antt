@@ -5,13 +5,13 @@ use Rattle.number.specs.Machine.{minus, in_range}
 use Rattle.number.proofs.Caps.{out_of_range, no_decimal, a_decimal}
 use Rattle.number.proofs.machine.real.Goals as goal
 
-pub returns-then-not-in-range : goal.returns-then-not-in-range
-returns-then-not-in-range c =
+pub returns-then-not-in_range : goal.returns-then-not-in_range
+returns-then-not-in_range c =
     let m = c.args.m in
     let x = c.args.exponent -ℤ pos m.places in
     let k = c.scale-k.result in
     let e : k ≡ settled m.c x = grind (arith, to_z-of_z, c.scale-k.ensures) in
-    let r : in_range k ≡ false = grind (arith, to_z-of_z, c.if-not-in-range.ensures) in
+    let r : in_range k ≡ false = grind (arith, to_z-of_z, c.if-not-in_range.ensures) in
     out_of_range (minus m.sign) m.c x k e r
 
 pub returns-in-Some : goal.returns-in-Some
@@ -20,10 +20,10 @@ returns-in-Some c =
     let x = c.args.exponent -ℤ pos m.places in
     let k = c.scale-k.result in
     let e : k ≡ settled m.c x = grind (arith, to_z-of_z, c.scale-k.ensures) in
-    let r : in_range k ≡ true = grind (arith, to_z-of_z, c.if-not-in-range.ensures) in
+    let r : in_range k ≡ true = grind (arith, to_z-of_z, c.if-not-in_range.ensures) in
     let h = c.in-Some.ensures in
     let f : c.in-Some.d.k ≡ k = grind (arith, ints, h.2, r) in
-    let s : c.is-minus.result ≡ minus m.sign = c.is-minus.ensures in
+    let s : c.is_minus.result ≡ minus m.sign = c.is_minus.ensures in
     let p : real c.in-Some.d.negative c.in-Some.d.c c.in-Some.d.k ≡ real (minus m.sign) m.c k = cc (h.0, h.1, f, s) in
     p ∙ a_decimal (minus m.sign) m.c x k e r (omega (arith, h.1))
 
@@ -33,6 +33,6 @@ returns-in-None c =
     let x = c.args.exponent -ℤ pos m.places in
     let k = c.scale-k.result in
     let e : k ≡ settled m.c x = grind (arith, to_z-of_z, c.scale-k.ensures) in
-    let r : in_range k ≡ true = grind (arith, to_z-of_z, c.if-not-in-range.ensures) in
+    let r : in_range k ≡ true = grind (arith, to_z-of_z, c.if-not-in_range.ensures) in
     let f : k ≡ to_z w8 (of_z w8 (to_z w64 (of_z w64 k))) = grind (arith, ints, r) in
     no_decimal (minus m.sign) m.c x k e r (λ d. c.in-None.ensures (subst (Decimal m.c) f d))

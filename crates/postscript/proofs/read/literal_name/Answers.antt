@@ -20,7 +20,7 @@ returns g c =
     let t : now ≡ past_class regular from = c.pass.ensures.means in
     let b = rw (c.place-start.ensures, c.step.ensures.lies) at c.between.ensures in
     let e : now ≡ past_class regular (behind (47 ∷ []) r m) = t ∙ ap (past_class regular) s in
-    let h = ap (λ l. outcome l m.ending) (opened_by 47 m.to_come c.requires) ∙ named u (past regular r) m.ending (subst (λ (n : Meaning). RunEnds n.to_come n.ending) e c.in-default.ensures) in
+    let h = ap (λ l. outcome l m.ending) (opened_by 47 m.to_come c.requires) ∙ named u (past regular r) m.ending (subst (λ (n : Meaning). RunEnds n.to_come n.ending) e c.in_default.ensures) in
     record {
       reads = run_took g.S.Inside.Source.meaning g.S.Inside.Source.lies (47 ∷ []) r m from now (g.S.Source.lies c.args.source.now) (Name (record { part = c.between.result; literal = true })) (shown 4 (47 ∷ u) u) s t b refl refl refl refl refl h;
       lies = c.pass.ensures.lies ∙ c.step.ensures.lies;

@@ -16,14 +16,14 @@ gap-preserved-in-37 g c =
     let n = c.pass.ensures.means in
     (ap (λ (x : Meaning). after_gap x.to_come) n ∙ comment_passed m.to_come (ap Some (sym c.in-37.is) ∙ c.in-Some.ensures) ∙ c.gap.invariant.0, subst (Moved _) (sym n) (moved_on c.gap.invariant.1 (moved_class _ m)), c.pass.ensures.lies ∙ c.gap.invariant.2)
 
-pub returns-in-default : goal.returns-in-default
-returns-in-default g c = let s : after_gap (g.S.Source.meaning c.gap.source).to_come ≡ (g.S.Source.meaning c.gap.source).to_come = search rules in record { gap = gap_passed _ _ (c.gap.invariant.0, c.gap.invariant.1) s; lies = c.gap.invariant.2 }
+pub returns-in_default : goal.returns-in_default
+returns-in_default g c = let s : after_gap (g.S.Source.meaning c.gap.source).to_come ≡ (g.S.Source.meaning c.gap.source).to_come = search rules in record { gap = gap_passed _ _ (c.gap.invariant.0, c.gap.invariant.1) s; lies = c.gap.invariant.2 }
 
-pub returns-in-default-peek : goal.returns-in-default-peek
-returns-in-default-peek g c = let s : after_gap (g.S.Source.meaning c.gap.source).to_come ≡ (g.S.Source.meaning c.gap.source).to_come = search rules in record { gap = gap_passed _ _ (c.gap.invariant.0, c.gap.invariant.1) s; lies = c.gap.invariant.2 }
+pub returns-in_default-peek : goal.returns-in_default-peek
+returns-in_default-peek g c = let s : after_gap (g.S.Source.meaning c.gap.source).to_come ≡ (g.S.Source.meaning c.gap.source).to_come = search rules in record { gap = gap_passed _ _ (c.gap.invariant.0, c.gap.invariant.1) s; lies = c.gap.invariant.2 }
 
-pub returns-in-default-peek·2 : goal.returns-in-default-peek·2
-returns-in-default-peek·2 g c = let s : after_gap (g.S.Source.meaning c.gap.source).to_come ≡ (g.S.Source.meaning c.gap.source).to_come = search rules in record { gap = gap_passed _ _ (c.gap.invariant.0, c.gap.invariant.1) s; lies = c.gap.invariant.2 }
+pub returns-in_default-peek-2 : goal.returns-in_default-peek-2
+returns-in_default-peek-2 g c = let s : after_gap (g.S.Source.meaning c.gap.source).to_come ≡ (g.S.Source.meaning c.gap.source).to_come = search rules in record { gap = gap_passed _ _ (c.gap.invariant.0, c.gap.invariant.1) s; lies = c.gap.invariant.2 }
 
-pub returns-in-default-2 : goal.returns-in-default-2
-returns-in-default-2 g c = let s : after_gap (g.S.Source.meaning c.gap.source).to_come ≡ (g.S.Source.meaning c.gap.source).to_come = search rules in record { gap = gap_passed _ _ (c.gap.invariant.0, c.gap.invariant.1) s; lies = c.gap.invariant.2 }
+pub returns-in_default-2 : goal.returns-in_default-2
+returns-in_default-2 g c = let s : after_gap (g.S.Source.meaning c.gap.source).to_come ≡ (g.S.Source.meaning c.gap.source).to_come = search rules in record { gap = gap_passed _ _ (c.gap.invariant.0, c.gap.invariant.1) s; lies = c.gap.invariant.2 }

@@ -7,11 +7,11 @@ use Rattle.syntax.specs.declared.open.Open.TheVariants.{RanOut, LacksClose}
 use Rattle.syntax.proofs.SkipSteps.{ascii85_out, ascii85_lacks, ascii85_closed}
 use Rattle.syntax.proofs.string.skip_ascii85.Goals as goal
 
-pub returns-in-default : goal.returns-in-default
-returns-in-default g c =
+pub returns-in_default : goal.returns-in_default
+returns-in_default g c =
     let m = g.S.Source.meaning c.args.source.now in
     let p = c.step.ensures.means ∙ ap stepped c.pass.ensures.means in
-    record { skips = subst (Skipped ascii85 2 (Err RanOut) m) (sym p) (ascii85_out m (c.in-default.ensures ∙ ap (λ (n : Meaning). first n.to_come) p)); lies = c.step.ensures.lies ∙ c.pass.ensures.lies }
+    record { skips = subst (Skipped ascii85 2 (Err RanOut) m) (sym p) (ascii85_out m (c.in_default.ensures ∙ ap (λ (n : Meaning). first n.to_come) p)); lies = c.step.ensures.lies ∙ c.pass.ensures.lies }
 
 pub returns-then-b-ne62 : goal.returns-then-b-ne62
 returns-then-b-ne62 g c =

@@ -23,7 +23,7 @@ loop-b-preserved-in-Some-piece g c =
 pub returns : goal.returns
 returns g c =
     let whole = decode (g.S.Source.meaning c.args.source).to_come in
-    let e = ap (λ l. take c.loop-b.at c.loop-b.buffer ++ decode l) (sym (none_left (g.S.Source.meaning c.loop-b.left).to_come c.in-default.ensures)) ∙ c.loop-b.invariant.0 in
+    let e = ap (λ l. take c.loop-b.at c.loop-b.buffer ++ decode l) (sym (none_left (g.S.Source.meaning c.loop-b.left).to_come c.in_default.ensures)) ∙ c.loop-b.invariant.0 in
     record {
       count = all_counted c.loop-b.at c.loop-b.buffer whole (omega arith) e;
       bytes = all_written c.loop-b.at c.loop-b.buffer c.args.buffer.now whole e c.loop-b.invariant.1;

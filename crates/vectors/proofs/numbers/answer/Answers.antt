@@ -9,7 +9,7 @@ use Rattle.vectors.proofs.numbers.answer.Goals as goal
 
 pub returns : goal.returns
 returns c =
-    let e : lent_at c.new-source.result ≡ lent c.args.run.now = c.new-source.ensures.means ∙ ap lent c.as-bytes.ensures.value in
+    let e : lent_at c.new-source.result ≡ lent c.args.run.now = c.new-source.ensures.means ∙ ap lent c.as_bytes.ensures.value in
     subst (λ w. IfOk c.show.result (λ s. string_bytes s ≡ words w))
     (sym (reading_is c.read-reading.ensures.reads) ∙ ap (λ m. reading (front regular m.to_come)) e)
     c.show.ensures

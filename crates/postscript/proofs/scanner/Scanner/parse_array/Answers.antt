@@ -8,14 +8,14 @@ use Rattle.postscript.proofs.scanner.Scanner.parse_array.Goals as goal
 no_number : parse_array ≡ parse_number → ⊥
 no_number e = let z : ◌≡◌ {A = ℕ} 0 1 = cc in omega arith
 
-pub returns-in-err-object : goal.returns-in-err-object
-returns-in-err-object g c =
+pub returns-in_err-object : goal.returns-in_err-object
+returns-in_err-object g c =
     let s = g.S.Source.meaning c.args.self.now.source in
     let t = g.S.Source.meaning c.parse_object.new.self.source in
-    let r = c.in-err-object.field-0.0 in
-    let e : c.from-residual.result ≡ Err r = search rules in
+    let r = c.in_err-object.field-0.0 in
+    let e : c.from_residual.result ≡ Err r = search rules in
     record {
-      turn = subst (λ q. (ps : List Piece) × Turn s (parses parse_array) (answered g.S.Inside.Source.meaning (as_array q)) ps t) (sym e) (refused_turn g.S.Inside.Source.meaning parse_array r c.in-err-object.ensures.turn);
+      turn = subst (λ q. (ps : List Piece) × Turn s (parses parse_array) (answered g.S.Inside.Source.meaning (as_array q)) ps t) (sym e) (refused_turn g.S.Inside.Source.meaning parse_array r c.in_err-object.ensures.turn);
       insides = subst (λ q. Insides g.S.Inside.Source.meaning g.S.Inside.Source.lies (g.S.Source.lies c.args.self.now.source) (as_array q)) (sym e) tt;
       lies = c.parse_object.ensures.lies;
     }
@@ -24,11 +24,11 @@ pub returns : goal.returns
 returns g c =
     let s = g.S.Source.meaning c.args.self.now.source in
     let t = g.S.Source.meaning c.parse_object.new.self.source in
-    let x = c.in-ok-object.object in
+    let x = c.in_ok-object.object in
     let e : as_array c.array.result ≡ typed parse_array x = ap as_array c.array.ensures ∙ array_typed x in
     record {
-      turn = subst (λ q. (ps : List Piece) × Turn s (parses parse_array) (answered g.S.Inside.Source.meaning q) ps t) (sym e) (typed_turn g.S.Inside.Source.meaning parse_array no_number x c.in-ok-object.ensures.turn);
+      turn = subst (λ q. (ps : List Piece) × Turn s (parses parse_array) (answered g.S.Inside.Source.meaning q) ps t) (sym e) (typed_turn g.S.Inside.Source.meaning parse_array no_number x c.in_ok-object.ensures.turn);
       insides = subst (λ q. Insides g.S.Inside.Source.meaning g.S.Inside.Source.lies (g.S.Source.lies c.args.self.now.source) q) (sym e)
-          (typed_insides g.S.Inside.Source.meaning g.S.Inside.Source.lies (g.S.Source.lies c.args.self.now.source) parse_array x c.in-ok-object.ensures.insides);
+          (typed_insides g.S.Inside.Source.meaning g.S.Inside.Source.lies (g.S.Source.lies c.args.self.now.source) parse_array x c.in_ok-object.ensures.insides);
       lies = c.parse_object.ensures.lies;
     }
