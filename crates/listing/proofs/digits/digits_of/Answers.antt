@@ -9,8 +9,8 @@ loop-left-init c =
     let h : c.args.n < 10 ^ 20 = omega arith in
     (append-nil (decimal c.args.n), decimal_length 19 c.args.n h, omega arith, refl)
 
-pub overflow-sub-from : goal.overflow-sub-from
-overflow-sub-from c = omega (arith, one_more c.loop-left.left c.loop-left-test.true, c.loop-left.invariant.1)
+pub overflow_sub-from : goal.overflow_sub-from
+overflow_sub-from c = omega (arith, one_more c.loop-left.left c.loop-left-test.true, c.loop-left.invariant.1)
 
 pub loop-left-preserved : goal.loop-left-preserved
 loop-left-preserved c =

@@ -1,8 +1,7 @@
 use Rattle.std.proofs.Common.{sym, refl, subst}
 use Rattle.definitions.specs.Decoder.{decoded}
 use Rattle.definitions.specs.Listing.{WritesLine}
-use Rattle.objects.specs.Decoding.{told}
-use Rattle.listing.specs.Entries.{line_of}
+use Rattle.listing.specs.Entries.{line_of, told}
 use Rattle.listing.proofs.Growing.{whole_line}
 use Rattle.listing.proofs.NextLine.{told_length}
 use Rattle.listing.proofs.lines.write_line.Goals as goal
