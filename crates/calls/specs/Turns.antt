@@ -1,5 +1,5 @@
 -- A call and its turn as the code holds them, and as the plain reader has them. Assumes nothing.
-use Rattle.std.specs.Prelude.{Bool, List, [], ◌∷◌, ◌++◌, ℕ, ◌+◌, ◌-◌, take, drop}
+use Rattle.std.specs.Prelude.{List, [], ◌∷◌, ◌++◌, ℕ, ◌-◌, take, drop}
 use Rattle.definitions.specs.PlainReader as reader
 use Rattle.definitions.specs.Sources.{Meaning}
 use Rattle.objects.specs.Answers.{as_refusal, numbered}

@@ -1,5 +1,5 @@
--- What parse-object took or refused, judged by another parser. Assumes nothing.
-use Rattle.std.proofs.Common.{◌≡◌, ℕ, ◌+◌, List, length, sym, refl, subst, arith}
+-- What parse_object took or refused, judged by another parser. Assumes nothing.
+use Rattle.std.proofs.Common.{◌≡◌, ℕ, List, sym, refl, subst, arith}
 use Rattle.definitions.specs.Sources.{Ending, Meaning}
 use Rattle.definitions.specs.Grammar.{Shown}
 use Rattle.definitions.specs.PlainReader.{Parser, parse_object, parse_number, Call, parses, at_end, Accepts, any, Handed, Answer, object, refusal, handed, Judges, hands_over, whole, near, far, other_type, Piece, Turn, takes, refuses, looks}

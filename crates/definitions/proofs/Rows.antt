@@ -2,7 +2,7 @@
 use Rattle.std.proofs.Common.{◌≡◌, ℕ, zero, suc, ◌+◌, ◌<◌, ◌≤◌, false, not, T, eqb, ◌⊎◌, List, [], ◌∷◌, ◌++◌, length, sym, refl, ap, ◌∙◌, subst, inl, inr, append_assoc, append-nil, arith, length-append}
 use Rattle.definitions.specs.Bytes.{All, comment_end, other_than}
 use Rattle.definitions.specs.Grammar.{loose, String, Items, OpenItems, LacksClose}
-use Rattle.definitions.specs.Scan.{Found, closed, lacking, out, items, text, ascii85, comment}
+use Rattle.definitions.specs.Scan.{Found, closed, lacking, out, items, text}
 use Rattle.definitions.proofs.Scan.{top, ascii85_passes, lacks, items_pass}
 use Rattle.definitions.proofs.Until.{Texts, until, comment_out, is_it, text_ends, angle_ends, AngleEnds, runs_out, marks, strings, tildes}
 

@@ -107,7 +107,7 @@ inside_source h = record { to_come = h.inside; place = 0; ending = clean }
 
 -- what a parser answers of an object that it took at a place
 pub data Judges : Parser → ℕ → Shown → Answer → Type 0 where
-  -- the object, by any parser that accepts its kind but parse-number
+  -- the object, by any parser that accepts its kind but parse_number
   hands_over : {parser : Parser} {at : ℕ} {o : Shown} → (parser ≢ parse_number) → Accepts parser o.kind → Judges parser at o (object (handed at o))
   -- an integer as it is
   whole : {at : ℕ} {o : Shown} {z : ℤ} → Accepts parse_number o.kind → o.value ≡ integer_value z → Judges parse_number at o (integer_number z)

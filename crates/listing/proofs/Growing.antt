@@ -1,7 +1,6 @@
 -- Text that grows at the front of a buffer, piece after piece. Assumes nothing.
 use Rattle.std.proofs.Common.{◌≡◌, ℕ, ◌+◌, ◌≤◌, Bool, List, [], ◌∷◌, ◌++◌, length, take, drop, ℤ, codes, sym, refl, ap, ◌∙◌, ap₂, subst₂, append_assoc, add_assoc, zero-add, arith, length-append}
-use lib.Seq.{take-append_seam, drop-append_seam}
-use Rattle.std.proofs.lemmas.List.{drop-drop}
+use lib.Seq.{take-append_seam}
 use Rattle.std.proofs.lemmas.Slice.{drop-append-drop}
 use Rattle.definitions.specs.Bytes.{comma, feed_byte, small_e}
 use Rattle.definitions.specs.Decoder.{decoded}

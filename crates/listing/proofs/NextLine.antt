@@ -1,14 +1,14 @@
 -- The next line of a listing, and the listing of what is left. Assumes nothing.
-use Rattle.std.proofs.Common.{◌≡◌, ℕ, ◌+◌, ◌<◌, ◌≤◌, Bool, true, false, cond, List, [], ◌∷◌, ◌++◌, length, drop, sym, refl, ap, ◌∙◌, subst, append-nil, arith, length-append}
+use Rattle.std.proofs.Common.{◌≡◌, ℕ, ◌<◌, ◌≤◌, Bool, true, false, cond, List, [], ◌++◌, length, drop, sym, refl, ap, ◌∙◌, append-nil, arith, length-append}
 use Rattle.definitions.specs.Decoder.{Told, decoded, turned_down}
-use Rattle.definitions.specs.Listing.{line, listing, Lists, ends, refuses, goes_on, WritesLine}
-use Rattle.definitions.specs.PlainReader.{Call, parses, parse_object, at_end, Answer, object, refusal, yes_no, Handed, Piece, Turn}
+use Rattle.definitions.specs.Listing.{line, listing, ends, refuses, goes_on, WritesLine}
+use Rattle.definitions.specs.PlainReader.{Call, Answer, object, yes_no, Handed, Piece, Turn}
 use Rattle.definitions.specs.Sources.{Meaning, Ending}
 use Rattle.definitions.proofs.Cut.{begins_whole, refuses_piece}
 use Rattle.definitions.proofs.Listing.{lined}
 use Rattle.definitions.proofs.Listings.{begins_long, listed, one_listing}
 use Rattle.objects.specs.Objects.{as_handed}
-use Rattle.listing.specs.Entries.{ComesNext, ends_with, line_of, place_of, answer_of, ListedLine}
+use Rattle.listing.specs.Entries.{ComesNext, ends_with, line_of, ListedLine}
 use Rattle.listing.specs.declared.entry.Entry.{Entry}
 use Rattle.listing.specs.declared.entry.Entry.TheVariants.{Object, Refused, End}
 

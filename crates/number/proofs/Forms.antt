@@ -1,5 +1,5 @@
 -- What the number machine comes to over a run, from each state on. Assumes nothing.
-use Rattle.std.proofs.Common.{◌≡◌, ℕ, zero, suc, ◌+◌, ◌-◌, ◌*◌, ◌^◌, ◌<◌, ◌≤◌, min, Bool, true, false, cond, ◌&&◌, ◌||◌, eqb, ltb, leb, ◌⊎◌, List, [], ◌∷◌, ◌++◌, length, drop, ℤ, pos, ◌-ℤ◌, sym, refl, ap, ◌∙◌, subst, ap₂, inl, inr, add-zero, arith}
+use Rattle.std.proofs.Common.{◌≡◌, ℕ, suc, ◌+◌, ◌-◌, ◌*◌, ◌^◌, ◌<◌, ◌≤◌, min, Bool, true, false, cond, ◌&&◌, eqb, ltb, leb, ◌⊎◌, List, [], ◌∷◌, ◌++◌, length, drop, ℤ, pos, ◌-ℤ◌, sym, refl, ap, ◌∙◌, subst, inl, inr, add-zero, arith}
 use native.Mathlib.Nat.{min-eq_left, min-eq_right}
 use Rattle.std.proofs.lemmas.Bool.{cases_lt, ltb-true, leb-true, lt-leb, and_parts, and_left, and_right}
 use Rattle.definitions.specs.Bytes.{digit, front, past}
@@ -12,7 +12,7 @@ use Rattle.number.specs.declared.state.Sign.TheVariants.{None, Plus, Minus}
 use Rattle.number.specs.declared.state.State.{State}
 use Rattle.number.specs.declared.state.State.TheVariants.{Start, Signed, Whole, Dot, Fraction, Exponent, ExponentSign, Power, Radix, Bits, Dead}
 use Rattle.number.specs.Machine.{minus, bare, base, whole_of, longer, longer_of, placed_of, e_sign, next_of, finish_of}
-use Rattle.number.proofs.Caps.{capped, radix_cap, c_cap, x_cap, plain, plain_cap}
+use Rattle.number.proofs.Caps.{capped, radix_cap, c_cap, x_cap, plain_cap}
 
 -- the state after a run
 abbrev pub run_of : State → List ℕ → State

@@ -1,11 +1,10 @@
 -- A turn of the number machine keeps its bounds and what it comes to. Assumes nothing.
-use Rattle.std.proofs.Common.{◌≡◌, ℕ, suc, ◌+◌, ◌-◌, ◌*◌, ◌^◌, ◌<◌, ◌≤◌, min, Bool, true, false, cond, ◌&&◌, ◌||◌, eqb, ltb, leb, List, [], ◌∷◌, length, Some, None as Nothing, sym, refl, ap, ◌∙◌, subst, arith}
+use Rattle.std.proofs.Common.{◌≡◌, ℕ, suc, ◌+◌, ◌-◌, ◌*◌, ◌^◌, ◌<◌, ◌≤◌, min, Bool, true, false, cond, ◌&&◌, eqb, ltb, leb, List, [], ◌∷◌, length, Some, None as Nothing, sym, refl, ap, ◌∙◌, subst, arith}
 use native.Mathlib.Nat.{min-le_right}
 use Rattle.std.proofs.lemmas.Bool.{leb-true, and_parts, cond_both}
 use Rattle.definitions.specs.Bytes.{digit, regular, front}
 use Rattle.definitions.specs.Moves.{first, rest}
 use Rattle.definitions.specs.Numbers.{digit_worth, Reading, Reads}
-use Rattle.definitions.specs.Readings.{reading}
 use Rattle.definitions.proofs.ReadsOnce.{reads}
 use Rattle.number.specs.declared.state.Mantissa.{Mantissa}
 use Rattle.number.specs.declared.state.Sign.{Sign}

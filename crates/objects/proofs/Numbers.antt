@@ -1,17 +1,14 @@
--- What parse-number answers of an object. Assumes nothing.
-use Rattle.std.proofs.Common.{◌≡◌, ℕ, ◌+◌, ◌<◌, ◌≤◌, Bool, true, false, ◌⊎◌, List, ℤ, Ok, Err, Result, sym, refl, ap, ◌∙◌, subst, inl, inr, arith}
+-- What parse_number answers of an object. Assumes nothing.
+use Rattle.std.proofs.Common.{◌≡◌, ℕ, ◌+◌, ◌<◌, ◌≤◌, Bool, true, false, ℤ, Err, sym, refl, ap, ◌∙◌, subst, arith}
 use lib.Ieee.{Float, binary32, of_bits, to_bits}
-use Rattle.definitions.specs.Grammar.{Shown, Value, none, integer_value, real_value}
-use Rattle.definitions.specs.PlainReader.{Parser, parse_object, parse_number, parses, Accepts, any, integers, reals, executable_names, literal_names, literal_strings, hex_strings, ascii85_strings, arrays, Near, Handed, Answer, object, integer_number, real_number, refusal, handed, Judges, whole, near, far, other_type, Piece, Turn}
+use Rattle.definitions.specs.Grammar.{Shown, none, integer_value, real_value}
+use Rattle.definitions.specs.PlainReader.{Parser, parse_number, Accepts, any, integers, reals, executable_names, literal_names, literal_strings, hex_strings, ascii85_strings, arrays, Near, integer_number, real_number, refusal, Judges, whole, near, far, other_type}
 use Rattle.definitions.specs.Singles.{Nearest, infinite, sign_bit, size}
-use Rattle.definitions.specs.Sources.{Ending, clean, Meaning}
+use Rattle.definitions.specs.Sources.{clean}
 use Rattle.single.proofs.Cut.{bits_back}
 use Rattle.objects.specs.Objects.{kind_number, kind_of, value_of, part_of, as_handed}
 use Rattle.objects.specs.Answers.{NumberIn}
-use Rattle.objects.specs.Refusals.{number_of, fault_of}
-use Rattle.objects.specs.declared.error.Reason.{Reason}
 use Rattle.objects.specs.declared.error.Reason.TheVariants.{OtherType}
-use Rattle.objects.specs.declared.error.Refusal.{Refusal}
 use Rattle.objects.specs.declared.object.Object.{Object}
 use Rattle.objects.specs.declared.object.Object.TheVariants.{Integer, Real, Name, String, Array}
 use Rattle.objects.specs.declared.string.Form.{Form}

@@ -1,5 +1,5 @@
 -- An object as the code holds it, and as the plain reader hands it over. Assumes nothing.
-use Rattle.std.specs.Prelude.{ℕ, Bool, true, false, List}
+use Rattle.std.specs.Prelude.{ℕ, Bool, true, false}
 use Rattle.definitions.specs.Grammar.{Value, none, integer_value, real_value}
 use Rattle.definitions.specs.PlainReader.{Handed}
 use Rattle.definitions.specs.Sources.{Meaning}

@@ -1,9 +1,9 @@
 -- Strings and arrays: what a skip found is what stands after the gap. Assumes nothing.
-use Rattle.std.proofs.Common.{◌≡◌, ℕ, zero, suc, ◌+◌, ◌-◌, ◌≤◌, true, false, cond, not, ◌||◌, T, eqb, List, [], ◌∷◌, ◌++◌, length, take, drop, Some, Ok, Err, Option, Result, sym, refl, ap, ◌∙◌, subst, arith, length-append, length-take}
+use Rattle.std.proofs.Common.{◌≡◌, ℕ, zero, suc, ◌+◌, ◌-◌, ◌≤◌, eqb, List, [], ◌∷◌, ◌++◌, length, take, Some, Ok, Err, Option, Result, sym, refl, ap, ◌∙◌, subst, arith, length-append, length-take}
 use Rattle.definitions.specs.Grammar.{none, an_object, HexHead}
 use Rattle.definitions.specs.Moves.{first, rest, pace, stepped, Moved}
-use Rattle.definitions.specs.Outcomes.{outcome, of_opener, before as bytes_before, shown, shown_of, angled, chop}
-use Rattle.definitions.specs.Scan.{Found, closed, items, angle, hex}
+use Rattle.definitions.specs.Outcomes.{outcome, of_opener, before as bytes_before, shown, shown_of, chop}
+use Rattle.definitions.specs.Scan.{Found, closed, hex}
 use Rattle.definitions.specs.SharedRun.{opener_length}
 use Rattle.definitions.specs.Sources.{Meaning, Ending}
 use Rattle.definitions.proofs.Bytes.{is_false, or_left, or_right}

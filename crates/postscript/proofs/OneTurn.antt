@@ -1,8 +1,8 @@
 -- A gap and one reading are one turn of the plain reader. Assumes nothing.
-use Rattle.std.proofs.Common.{◌≡◌, ℕ, ◌+◌, List, [], ◌∷◌, ◌++◌, length, Ok, Err, Option, Result, sym, refl, ap, ◌∙◌, subst, subst₂, add_assoc, arith, length-append}
-use Rattle.definitions.specs.Grammar.{Shown, Outcome, an_object, a_refusal, ComesTo}
+use Rattle.std.proofs.Common.{◌≡◌, ℕ, ◌+◌, List, [], ◌∷◌, ◌++◌, length, Ok, Err, Option, Result, sym, ap, ◌∙◌, subst, subst₂, add_assoc, arith, length-append}
+use Rattle.definitions.specs.Grammar.{Outcome, an_object, a_refusal, ComesTo}
 use Rattle.definitions.specs.Outcomes.{outcome}
-use Rattle.definitions.specs.PlainReader.{Parser, parse_object, parse_number, parses, any, object, refusal, handed, hands_over, Piece, gap, taken, refused, carried, after, Turn, takes, refuses, GapPassed}
+use Rattle.definitions.specs.PlainReader.{parse_object, parse_number, parses, any, object, refusal, handed, hands_over, Piece, gap, taken, refused, carried, after, Turn, takes, refuses, GapPassed}
 use Rattle.definitions.specs.Sources.{Meaning}
 use Rattle.definitions.proofs.OutcomeTotal.{comes}
 use Rattle.definitions.proofs.Turns.{begun, was_refused}

@@ -1,5 +1,5 @@
 -- Names and numbers: a run that ends is what stands after the gap. Assumes nothing.
-use Rattle.std.proofs.Common.{◌≡◌, ℕ, ◌+◌, ◌-◌, ◌<◌, ◌≤◌, cond, not, ◌||◌, T, eqb, List, [], ◌∷◌, ◌++◌, length, take, Ok, Err, Option, sym, refl, ap, ◌∙◌, subst, add-zero, arith, length-append}
+use Rattle.std.proofs.Common.{◌≡◌, ℕ, ◌+◌, ◌-◌, ◌<◌, ◌≤◌, not, ◌||◌, T, eqb, List, [], ◌∷◌, ◌++◌, length, take, Ok, Err, Option, sym, refl, ap, ◌∙◌, subst, add-zero, arith, length-append}
 use lib.Seq.{take-append_seam}
 use Rattle.definitions.specs.Bytes.{digit, regular, front, past}
 use Rattle.definitions.specs.Grammar.{Shown, an_object}

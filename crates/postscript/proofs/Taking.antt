@@ -1,19 +1,17 @@
 -- From what a rule found to what stands after the gap: an object taken, or a refusal. Assumes nothing.
-use Rattle.std.proofs.Common.{◌≡◌, ℕ, zero, suc, ◌+◌, ◌-◌, ◌<◌, ◌≤◌, Bool, true, false, List, [], ◌∷◌, ◌++◌, length, take, Ok, Err, Option, sym, refl, ap, ◌∙◌, subst, add-zero, arith, length-take}
-use Rattle.definitions.specs.Grammar.{Shown, Outcome, an_object, a_refusal}
+use Rattle.std.proofs.Common.{◌≡◌, ℕ, zero, suc, ◌+◌, ◌-◌, ◌≤◌, List, [], ◌∷◌, length, take, Ok, Err, Option, sym, refl, ap, ◌∙◌, subst, add-zero, arith, length-take}
+use Rattle.definitions.specs.Grammar.{Shown, an_object}
 use Rattle.definitions.specs.Moves.{Moved}
 use Rattle.definitions.specs.Outcomes.{outcome, before as bytes_before, chop, unclosed_number, of_opener}
-use Rattle.definitions.specs.PlainReader.{handed, carried, after}
-use Rattle.definitions.specs.Scan.{closed, lacking, out, items}
+use Rattle.definitions.specs.PlainReader.{carried}
 use Rattle.definitions.specs.SharedRun.{opener_length}
 use Rattle.definitions.specs.Sources.{Meaning, Ending, clean, fault, if_there, window}
-use Rattle.definitions.proofs.Scan.{top}
 use Rattle.reader.specs.Addresses.{Address, further}
 use Rattle.syntax.specs.Skips.{found, Spent}
 use Rattle.syntax.specs.declared.open.Open.{Open}
 use Rattle.syntax.specs.declared.open.Open.TheVariants.{RanOut, LacksClose}
-use Rattle.objects.specs.Objects.{kind_number, kind_of, part_of, value_of, as_handed}
-use Rattle.postscript.specs.Reading.{Came, Inside, Between, OpenReason, AtEnd, Read}
+use Rattle.objects.specs.Objects.{kind_number, kind_of, part_of, value_of}
+use Rattle.postscript.specs.Reading.{Came, Between, OpenReason, AtEnd, Read}
 use Rattle.objects.specs.Refusals.{number_of, fault_of}
 use Rattle.objects.specs.declared.error.Reason.{Reason}
 use Rattle.objects.specs.declared.error.Reason.TheVariants.{Unclosed}

@@ -1,4 +1,4 @@
--- What parse-object took or refused, as the typed parsers answer it. Assumes nothing.
+-- What parse_object took or refused, as the typed parsers answer it. Assumes nothing.
 use Rattle.std.proofs.Common.{◌≡◌, ℕ, Bool, true, false, cond, T, List, Ok, Err, Option, Result, sym, refl, ap, ◌∙◌, subst, arith}
 use Rattle.definitions.specs.Grammar.{Shown}
 use Rattle.definitions.specs.PlainReader.{Parser, parse_object, parse_number, parse_name, parse_string, parse_array, parses, Accepts, accepts, Handed, Answer, object, handed, Judges, hands_over, other_type, Piece, Turn}
@@ -81,11 +81,11 @@ module _ {I : Type 0} where
       other_type (λ a. subst T e (accepts_so (subst (Accepts p) k a)))
 
   module _ (meaning : I → Meaning) {s t : Meaning} where
-    -- a refusal of parse-object is one of every parser
+    -- a refusal of parse_object is one of every parser
     pub refused_turn : (p : Parser) (r : Refusal) → (ps : List Piece) × Turn s (parses parse_object) (answered meaning (Err r)) ps t → (ps : List Piece) × Turn s (parses p) (as_refusal r) ps t
     refused_turn p r (ps, x) = (ps, rejudged p (as_refusal r) x refl (λ h e. let z : ◌≡◌ {A = ℕ} 0 1 = cc in absurd (omega arith)) (λ n place e k. refl))
 
-    -- an object that parse-object hands over, judged by another parser
+    -- an object that parse_object hands over, judged by another parser
     pub object_turn : (p : Parser) (x : Object I) (a : Answer) → ((o : Shown) → handed (part_of x).start o ≡ as_handed meaning x → Judges p (part_of x).start o a)
         → (ps : List Piece) × Turn s (parses parse_object) (answered meaning (Ok x)) ps t → (ps : List Piece) × Turn s (parses p) a ps t
     object_turn p x a f (ps, y) = (
@@ -99,7 +99,7 @@ module _ {I : Type 0} where
           (λ n place e k. let z : ◌≡◌ {A = ℕ} 0 1 = cc in absurd (omega arith)),
     )
 
-    -- by parse-number
+    -- by parse_number
     pub number_turn : (x : Object I) (a : Answer) → ((o : Shown) → o.kind ≡ kind_number (kind_of x) → o.value ≡ value_of x → Judges parse_number (part_of x).start o a)
         → (ps : List Piece) × Turn s (parses parse_object) (answered meaning (Ok x)) ps t → (ps : List Piece) × Turn s (parses parse_number) a ps t
     number_turn x a f = object_turn parse_number x a (λ o e. f o (ap (λ (v : Handed). v.kind) e) (ap (λ (v : Handed). v.value) e))

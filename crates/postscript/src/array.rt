@@ -1,11 +1,11 @@
 ghost use Rattle.std.specs.Prelude.{◌≡◌};
 
 use super::scanner::Scanner;
-use objects::array::Array;
+pub use objects::array::Array;
 
 // What has objects inside. A trait, since a method of `Array` can only stand beside its type, and
-// there no scanner is known.
-pub trait Objects {
+// there no scanner is known. Not public yet, as the typed parsers of names, strings and arrays.
+pub(crate) trait Objects {
     type Inside: Copy;
 
     ghost inside: { Self → Self.Inside };

@@ -3,3 +3,5 @@
 pub mod array;
 mod read;
 pub mod scanner;
+
+pub use objects::{decode, error, kind, name, object, part, string};

@@ -71,8 +71,10 @@ impl<S: Windowed> Scanner<S> {
         }
     }
 
+    // The next three are not public yet: a caller has them once a run of any calls is proved whole.
+
     // The name after the gap. An object that is none is passed, and refused at its start.
-    pub fn parse_name(&mut self) -> Result<Name<S::Inside>, Refusal>
+    pub(crate) fn parse_name(&mut self) -> Result<Name<S::Inside>, Refusal>
         ensures turn { (ps : List Piece) × Turn (S.Source.meaning self.old.source) (parses parse_name) (answered S.Inside.Source.meaning (as_name result)) ps (S.Source.meaning self.new.source) }
         ensures insides { Insides S.Inside.Source.meaning S.Inside.Source.lies (S.Source.lies self.old.source) (as_name result) }
         ensures lies { S.Source.lies self.new.source ≡ S.Source.lies self.old.source }
@@ -82,7 +84,7 @@ impl<S: Windowed> Scanner<S> {
     }
 
     // The string after the gap, of any form. An object that is none is passed, and refused at its start.
-    pub fn parse_string(&mut self) -> Result<String<S::Inside>, Refusal>
+    pub(crate) fn parse_string(&mut self) -> Result<String<S::Inside>, Refusal>
         ensures turn { (ps : List Piece) × Turn (S.Source.meaning self.old.source) (parses parse_string) (answered S.Inside.Source.meaning (as_string result)) ps (S.Source.meaning self.new.source) }
         ensures insides { Insides S.Inside.Source.meaning S.Inside.Source.lies (S.Source.lies self.old.source) (as_string result) }
         ensures lies { S.Source.lies self.new.source ≡ S.Source.lies self.old.source }
@@ -92,7 +94,7 @@ impl<S: Windowed> Scanner<S> {
     }
 
     // The array after the gap. An object that is none is passed, and refused at its start.
-    pub fn parse_array(&mut self) -> Result<Array<S::Inside>, Refusal>
+    pub(crate) fn parse_array(&mut self) -> Result<Array<S::Inside>, Refusal>
         ensures turn { (ps : List Piece) × Turn (S.Source.meaning self.old.source) (parses parse_array) (answered S.Inside.Source.meaning (as_array result)) ps (S.Source.meaning self.new.source) }
         ensures insides { Insides S.Inside.Source.meaning S.Inside.Source.lies (S.Source.lies self.old.source) (as_array result) }
         ensures lies { S.Source.lies self.new.source ≡ S.Source.lies self.old.source }

@@ -1,5 +1,5 @@
 -- What a step does to a source that a class or a count of bytes is passed on. Assumes nothing.
-use Rattle.std.proofs.Common.{◌≡◌, ℕ, suc, ◌+◌, Bool, true, false, cond, List, [], ◌∷◌, length, Some, None, sym, refl, ap, ◌∙◌, add-zero, add_assoc, one-add, arith}
+use Rattle.std.proofs.Common.{◌≡◌, ℕ, suc, ◌+◌, Bool, true, false, cond, List, [], ◌∷◌, length, Some, refl, ap, ◌∙◌, add-zero, add_assoc, one-add, arith}
 use Rattle.definitions.specs.Bytes.{front, past}
 use Rattle.definitions.specs.Moves.{first, rest, pace, stepped, past_class, Moved}
 use Rattle.definitions.specs.Sources.{Ending, Meaning}

@@ -1,7 +1,7 @@
 -- A window of cut bytes: clean where it is no longer than what is left, cut short otherwise. Assumes nothing.
-use Rattle.std.proofs.Common.{◌≡◌, ℕ, ◌<◌, ◌≤◌, List, length, take, None, Option, sym, refl, ap, ◌∙◌, le-leb}
+use Rattle.std.proofs.Common.{◌≡◌, ℕ, ◌<◌, ◌≤◌, List, length, take, None, Option, sym, ap, ◌∙◌, le-leb}
 use borrow.Author.Tests.{lt-leb}
-use Rattle.definitions.specs.Sources.{Meaning, Ending, clean, if_there, window}
+use Rattle.definitions.specs.Sources.{Meaning, clean, if_there, window}
 use Rattle.definitions.proofs.SourceLaws.{there_is}
 use Rattle.reader.specs.declared.source.Fault.{Fault}
 use Rattle.scans.specs.Cuts.{cut_short}

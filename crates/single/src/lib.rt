@@ -1,6 +1,6 @@
 #![tactic(auto)]
 
 pub mod nearest;
-pub mod value;
 mod rounding;
+pub mod value;
 mod worth;

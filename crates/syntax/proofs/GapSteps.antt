@@ -1,11 +1,11 @@
 -- The gap's loop: where it stops the gap is passed, and a comment comes no closer to its end. Assumes nothing.
-use Rattle.std.proofs.Common.{◌≡◌, ℕ, suc, ◌+◌, ◌<◌, ◌≤◌, Bool, true, false, cond, not, eqb, List, [], ◌∷◌, ◌++◌, length, Some, sym, refl, ap, ◌∙◌, subst, arith, length-append}
+use Rattle.std.proofs.Common.{◌≡◌, ℕ, suc, ◌+◌, ◌<◌, ◌≤◌, Bool, true, false, cond, not, List, [], ◌∷◌, ◌++◌, length, Some, sym, refl, ap, ◌∙◌, subst, arith, length-append}
 use Rattle.std.proofs.lemmas.Bool.Decides.{nat_tests}
 use Rattle.definitions.specs.Bytes.{blank, comment_end, past}
 use Rattle.definitions.specs.Gaps.{Gap, PastGap, after_gap, after_comment}
 use Rattle.definitions.specs.Moves.{first, Moved}
-use Rattle.definitions.specs.PlainReader.{Parted, GapPassed}
-use Rattle.definitions.specs.Sources.{Meaning, Ending}
+use Rattle.definitions.specs.PlainReader.{GapPassed}
+use Rattle.definitions.specs.Sources.{Meaning}
 use Rattle.definitions.proofs.GapTotal.{gap_as}
 
 -- where no piece of a gap begins, the gap was passed

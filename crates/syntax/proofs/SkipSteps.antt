@@ -1,9 +1,9 @@
 -- What skipping a string comes to, step by step. Assumes nothing.
-use Rattle.std.proofs.Common.{◌≡◌, ℕ, suc, ◌+◌, ◌≤◌, Bool, true, false, cond, not, T, eqb, List, [], ◌∷◌, length, is_some, Some, None, Ok, Err, sym, refl, ap, ◌∙◌, arith, eqb→eq}
+use Rattle.std.proofs.Common.{◌≡◌, ℕ, suc, ◌+◌, ◌≤◌, Bool, true, false, cond, not, eqb, List, [], ◌∷◌, length, is_some, Some, None, Ok, Err, sym, refl, ap, ◌∙◌, arith, eqb→eq}
 use Rattle.std.proofs.lemmas.Bool.{true≢false, ne_eqb}
 use Rattle.definitions.specs.Bytes.{comment_end, other_than, front, past}
 use Rattle.definitions.specs.Moves.{first, rest, pace, stepped, past_class, Moved}
-use Rattle.definitions.specs.Scan.{Found, lacking, out, items, hex, ascii85, tilde, comment}
+use Rattle.definitions.specs.Scan.{lacking, items, hex, ascii85, tilde, comment}
 use Rattle.definitions.specs.Sources.{Meaning}
 use Rattle.definitions.proofs.Bytes.{t_from, no}
 use Rattle.reader.proofs.Moves.{moved_on, moved_step, moved_class}

@@ -1,4 +1,4 @@
-use Rattle.std.proofs.Common.{◌≡◌, ◌+◌, ◌-◌, ◌/◌, ◌%◌, ◌^◌, ◌<◌, ◌≤◌, length, refl, ◌∙◌, append-nil, arith, length-set}
+use Rattle.std.proofs.Common.{◌+◌, ◌-◌, ◌%◌, ◌^◌, ◌<◌, refl, ◌∙◌, append-nil, arith, length-set}
 use Rattle.definitions.specs.Listing.{decimal}
 use Rattle.definitions.proofs.Listing.{decimal_length}
 use Rattle.listing.proofs.Decimals.{digit_more, digit_last, one_more, some_digit}

@@ -1,9 +1,6 @@
-use Rattle.std.proofs.Common.{◌≡◌, ◌+◌, ◌∷◌, ◌++◌, length, sym, ap, ◌∙◌, subst, arith, to_z-of_z, w8, w64, SFits, to_z, of_z, rules}
+use Rattle.std.proofs.Common.{◌≡◌, ◌∙◌, arith, to_z-of_z, w8, w64, SFits, to_z, of_z, rules}
 use Rattle.definitions.specs.Grammar.{real_value}
-use Rattle.definitions.specs.Listing.{decimal, signed_decimal, minus_if, value_text}
 use Rattle.definitions.proofs.Listing.{value_length}
-use Rattle.objects.specs.Objects.{part_of, value_of}
-use Rattle.listing.specs.Appending.{Appends}
 use Rattle.listing.proofs.line.put_value.Goals as goal
 
 pub put_real-requires : goal.put_real-requires

@@ -1,4 +1,4 @@
-use Rattle.std.proofs.Common.{◌≡◌, true, length, Some, sym, ap, ◌∙◌, subst, arith, rules}
+use Rattle.std.proofs.Common.{◌≡◌, true, length, Some, sym, ap, ◌∙◌, subst, arith}
 use Rattle.definitions.specs.Bytes.{regular, front}
 use Rattle.definitions.specs.Moves.{first, rest, stepped, past_class}
 use Rattle.reader.proofs.Moves.{class_step}

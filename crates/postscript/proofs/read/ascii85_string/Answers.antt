@@ -1,4 +1,4 @@
-use Rattle.std.proofs.Common.{[], ◌∷◌, ◌++◌, refl, ap, ◌∙◌}
+use Rattle.std.proofs.Common.{[], ◌∷◌, refl, ap, ◌∙◌}
 use Rattle.definitions.specs.Moves.{rest, stepped}
 use Rattle.definitions.specs.Scan.{ascii85}
 use Rattle.objects.specs.declared.object.Object.TheVariants.{String}

@@ -3,7 +3,7 @@ use Rattle.definitions.specs.Moves.{rest}
 use Rattle.definitions.specs.Scan.{text}
 use Rattle.objects.specs.declared.object.Object.TheVariants.{String}
 use Rattle.objects.specs.declared.string.Form.TheVariants.{Literal}
-use Rattle.postscript.proofs.Bracketed.{closed_so, open_so, opened_by, stepped_behind, literal_shows}
+use Rattle.postscript.proofs.Bracketed.{closed_so, opened_by, stepped_behind, literal_shows}
 use Rattle.postscript.proofs.read.literal_string.Goals as goal
 
 pub returns : goal.returns

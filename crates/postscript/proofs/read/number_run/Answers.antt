@@ -1,4 +1,4 @@
-use Rattle.std.proofs.Common.{◌≡◌, false, sym, refl, ap, ◌∙◌, subst, to_z-of_z, w32, SFits, rules}
+use Rattle.std.proofs.Common.{false, refl, ap, to_z-of_z, w32, SFits, rules}
 use Rattle.definitions.specs.Bytes.{regular, front, past}
 use Rattle.definitions.specs.Grammar.{integer_value, real_value}
 use Rattle.definitions.specs.Outcomes.{of_reading, shown}

@@ -1,5 +1,5 @@
 -- The table is what `marks` gives of each byte in turn: antt computes both.
-use Rattle.std.proofs.Common.{◌≡◌, ◌<◌, ◌||◌, ap, ◌∙◌, add-zero, rules}
+use Rattle.std.proofs.Common.{◌<◌, ◌||◌, ap, ◌∙◌, add-zero, rules}
 use Rattle.reader.proofs.Table.{marks, entry, set_in, clear_in}
 use Rattle.reader.proofs.class.marks_of.Goals as goal
 

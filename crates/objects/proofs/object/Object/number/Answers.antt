@@ -1,7 +1,6 @@
-use Rattle.std.proofs.Common.{◌≡◌, sym, ap, ◌∙◌, subst, w32, SFits, to_z, of_z, rules}
+use Rattle.std.proofs.Common.{◌≡◌, sym, ap, ◌∙◌, w32, SFits, to_z, of_z, rules}
 use Rattle.std.proofs.lemmas.Int.{to_z-of_z}
 use Rattle.definitions.specs.Grammar.{none, integer_value}
-use Rattle.definitions.specs.PlainReader.{parse_number, integer_number, Judges}
 use Rattle.objects.specs.Objects.{kind_number, kind_of, value_of}
 use Rattle.objects.proofs.Numbers.{an_integer, a_near_real, a_far_real, no_number}
 use Rattle.objects.proofs.object.Object.number.Goals as goal
