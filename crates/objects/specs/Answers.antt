@@ -5,7 +5,7 @@ use Rattle.definitions.specs.Grammar.{Shown}
 use Rattle.definitions.specs.PlainReader.{parse_number, Answer, object, integer_number, real_number, refusal, Judges}
 use Rattle.definitions.specs.Sources.{Meaning}
 use Rattle.single.specs.declared.value.Number.{Number}
-use Rattle.single.specs.declared.value.Number.TheVariants as number
+use Rattle.single.specs.declared.value.Number.TheVariants.{Integer, Real}
 use Rattle.objects.specs.Objects.{kind_number, kind_of, part_of, value_of, as_handed}
 use Rattle.objects.specs.Refusals.{number_of, fault_of}
 use Rattle.objects.specs.declared.array.Array.{Array}
@@ -14,7 +14,7 @@ use Rattle.objects.specs.declared.error.Reason.TheVariants.{OtherType}
 use Rattle.objects.specs.declared.error.Refusal.{Refusal}
 use Rattle.objects.specs.declared.name.Name.{Name}
 use Rattle.objects.specs.declared.object.Object.{Object}
-use Rattle.objects.specs.declared.object.Object.TheVariants as object
+use Rattle.objects.specs.declared.object.Object.TheVariants as case
 use Rattle.objects.specs.declared.string.String.{String}
 
 -- a refusal by its number and place, with its fault
@@ -23,13 +23,13 @@ as_refusal r = refusal (number_of r.reason) r.place (fault_of r.reason)
 
 -- an answer of parse_object, as the plain reader gives it
 abbrev pub answered : {I : Type 0} → (I → Meaning) → Result (Object I) Refusal → Answer
-answered meaning (Ok x) = Rattle.definitions.specs.PlainReader.object (as_handed meaning x)
+answered meaning (Ok x) = object (as_handed meaning x)
 answered meaning (Err r) = refusal (number_of r.reason) r.place (fault_of r.reason)
 
 -- an answer of parse_number: a float by its bits
 abbrev pub numbered : Number → Answer
-numbered (number.Integer n) = integer_number n
-numbered (number.Real x) = real_number (to_bits binary32 x)
+numbered (Integer n) = integer_number n
+numbered (Real x) = real_number (to_bits binary32 x)
 
 abbrev pub number_answered : Result Number Refusal → Answer
 number_answered (Ok n) = numbered n
@@ -46,37 +46,37 @@ refused_by why x = record { place = (part_of x).start; reason = why }
 
 -- a name as it is; any other object is of another type
 abbrev pub name_in : {I : Type 0} → Object I → Result (Name I) Refusal
-name_in (object.Name n) = Ok n
-name_in (object.Integer p n) = Err (refused_by OtherType (object.Integer p n))
-name_in (object.Real p d) = Err (refused_by OtherType (object.Real p d))
-name_in (object.String s) = Err (refused_by OtherType (object.String s))
-name_in (object.Array a) = Err (refused_by OtherType (object.Array a))
+name_in (case.Name n) = Ok n
+name_in (case.Integer p n) = Err (refused_by OtherType (case.Integer p n))
+name_in (case.Real p d) = Err (refused_by OtherType (case.Real p d))
+name_in (case.String s) = Err (refused_by OtherType (case.String s))
+name_in (case.Array a) = Err (refused_by OtherType (case.Array a))
 
 -- a string as it is; any other object is of another type
 abbrev pub string_in : {I : Type 0} → Object I → Result (String I) Refusal
-string_in (object.String s) = Ok s
-string_in (object.Integer p n) = Err (refused_by OtherType (object.Integer p n))
-string_in (object.Real p d) = Err (refused_by OtherType (object.Real p d))
-string_in (object.Name n) = Err (refused_by OtherType (object.Name n))
-string_in (object.Array a) = Err (refused_by OtherType (object.Array a))
+string_in (case.String s) = Ok s
+string_in (case.Integer p n) = Err (refused_by OtherType (case.Integer p n))
+string_in (case.Real p d) = Err (refused_by OtherType (case.Real p d))
+string_in (case.Name n) = Err (refused_by OtherType (case.Name n))
+string_in (case.Array a) = Err (refused_by OtherType (case.Array a))
 
 -- an array as it is; any other object is of another type
 abbrev pub array_in : {I : Type 0} → Object I → Result (Array I) Refusal
-array_in (object.Array a) = Ok a
-array_in (object.Integer p n) = Err (refused_by OtherType (object.Integer p n))
-array_in (object.Real p d) = Err (refused_by OtherType (object.Real p d))
-array_in (object.Name n) = Err (refused_by OtherType (object.Name n))
-array_in (object.String s) = Err (refused_by OtherType (object.String s))
+array_in (case.Array a) = Ok a
+array_in (case.Integer p n) = Err (refused_by OtherType (case.Integer p n))
+array_in (case.Real p d) = Err (refused_by OtherType (case.Real p d))
+array_in (case.Name n) = Err (refused_by OtherType (case.Name n))
+array_in (case.String s) = Err (refused_by OtherType (case.String s))
 
 -- a name, a string or an array that was handed over, as the object that it is
 abbrev pub as_name : {I : Type 0} → Result (Name I) Refusal → Result (Object I) Refusal
-as_name (Ok n) = Ok (object.Name n)
+as_name (Ok n) = Ok (case.Name n)
 as_name (Err r) = Err r
 
 abbrev pub as_string : {I : Type 0} → Result (String I) Refusal → Result (Object I) Refusal
-as_string (Ok s) = Ok (object.String s)
+as_string (Ok s) = Ok (case.String s)
 as_string (Err r) = Err r
 
 abbrev pub as_array : {I : Type 0} → Result (Array I) Refusal → Result (Object I) Refusal
-as_array (Ok a) = Ok (object.Array a)
+as_array (Ok a) = Ok (case.Array a)
 as_array (Err r) = Err r
