@@ -3,10 +3,11 @@ use Rattle.std.proofs.Common.{◌≡◌, ℕ, suc, ◌+◌, ◌<◌, ◌≤◌, 
 use Rattle.std.proofs.lemmas.Bool.Decides.{nat_tests}
 use Rattle.definitions.specs.Bytes.{blank, comment_end, past}
 use Rattle.definitions.specs.Gaps.{Gap, PastGap, after_gap, after_comment}
-use Rattle.definitions.specs.Moves.{first, Moved}
+use Rattle.definitions.specs.Moves.{first, past_class, Moved}
 use Rattle.definitions.specs.PlainReader.{GapPassed}
 use Rattle.definitions.specs.Sources.{Meaning}
 use Rattle.definitions.proofs.GapTotal.{gap_as}
+use Rattle.reader.proofs.Moves.{moved_on, moved_class}
 
 -- where no piece of a gap begins, the gap was passed
 pub gap_passed : (before now : Meaning) → (after_gap now.to_come ≡ after_gap before.to_come) × Moved before now → after_gap now.to_come ≡ now.to_come → GapPassed before now
@@ -49,3 +50,14 @@ past_shorter c (b ∷ bs) = step (c b) (past_shorter c bs)
 pub comment_shorter : (bs : List ℕ) → Some 37 ≡ first bs → length (past (λ b. not (comment_end b)) bs) < length bs
 comment_shorter [] e = grind arith
 comment_shorter (x ∷ bs) e = let q : x ≡ 37 = cc in let h = past_shorter (λ b. not (comment_end b)) bs in rw q (omega arith)
+
+-- a source is shorter behind a comment
+pub comment_shortens : (m n : Meaning) (b : ℕ) → n ≡ past_class (λ x. not (comment_end x)) m → b ≡ 37 → Some b ≡ first m.to_come → length n.to_come < length m.to_come
+comment_shortens m n b e q f = rw (ap (λ (x : Meaning). length x.to_come) e) (comment_shorter m.to_come (ap Some (sym q) ∙ f))
+
+-- and what the gap's loop keeps goes on there
+pub comment_goes_on : {A : Type 0} (e m n : Meaning) (b : ℕ) (x y z : A)
+    → after_gap m.to_come ≡ after_gap e.to_come → Moved e m → y ≡ x → Some b ≡ first m.to_come → b ≡ 37 → n ≡ past_class (λ t. not (comment_end t)) m → z ≡ y
+    → (after_gap n.to_come ≡ after_gap e.to_come) × Moved e n × (z ≡ x)
+comment_goes_on e m n b x y z k v l f q i j =
+    (ap (λ (t : Meaning). after_gap t.to_come) i ∙ comment_passed m.to_come (ap Some (sym q) ∙ f) ∙ k, subst (Moved e) (sym i) (moved_on v (moved_class _ m)), j ∙ l)

@@ -1,14 +1,15 @@
 -- What skipping a string comes to, step by step. Assumes nothing.
-use Rattle.std.proofs.Common.{◌≡◌, ℕ, suc, ◌+◌, ◌≤◌, Bool, true, false, cond, not, eqb, List, [], ◌∷◌, length, is_some, Some, None, Ok, Err, sym, refl, ap, ◌∙◌, arith, eqb→eq}
+use Rattle.std.proofs.Common.{◌≡◌, ℕ, suc, ◌+◌, ◌≤◌, Bool, true, false, cond, not, eqb, List, [], ◌∷◌, length, is_some, Some, None, Ok, Err, sym, refl, ap, ◌∙◌, subst, arith, eqb→eq}
 use Rattle.std.proofs.lemmas.Bool.{true≢false, ne_eqb}
 use Rattle.definitions.specs.Bytes.{comment_end, other_than, front, past}
 use Rattle.definitions.specs.Moves.{first, rest, pace, stepped, past_class, Moved}
 use Rattle.definitions.specs.Scan.{lacking, items, hex, ascii85, tilde, comment}
-use Rattle.definitions.specs.Sources.{Meaning}
+use Rattle.definitions.specs.Sources.{Meaning, limit}
 use Rattle.definitions.proofs.Bytes.{t_from, no}
 use Rattle.reader.proofs.Moves.{moved_on, moved_step, moved_class}
 use Rattle.syntax.specs.Skips.{Skipped}
 use Rattle.syntax.specs.declared.open.Open.TheVariants.{RanOut, LacksClose}
+use Rattle.syntax.proofs.GapSteps.{comment_shortens}
 
 pub none_first : (bs : List ℕ) → is_some (first bs) ≡ false → bs ≡ []
 none_first [] e = refl
@@ -97,3 +98,17 @@ in_array e (b ∷ bs) = step (comment_end b) refl (in_array e bs)
 pub comment_skipped : (e : ℕ) (bs : List ℕ) → Some 37 ≡ first bs → items (suc e) (past (λ b. not (comment_end b)) bs) ≡ items (suc e) bs
 comment_skipped e [] k = grind arith
 comment_skipped e (x ∷ bs) k = let q : x ≡ 37 = cc in rw q (in_array e bs)
+
+-- so what the array's loop keeps goes on behind it
+pub comment_goes_on : {A : Type 0} (e m n : Meaning) (depth b : ℕ) (x y z : A)
+    → ((d : ℕ) → items (suc (depth + d)) m.to_come ≡ items (suc d) e.to_come) → Moved e m → depth + length m.to_come ≤ limit → y ≡ x
+    → Some b ≡ first m.to_come → b ≡ 37 → n ≡ past_class (λ t. not (comment_end t)) m → z ≡ y
+    → ((d : ℕ) → items (suc (depth + d)) n.to_come ≡ items (suc d) e.to_come) × Moved e n × (depth + length n.to_come ≤ limit) × (z ≡ x)
+comment_goes_on e m n depth b x y z k v h l f q i j =
+    let g : Some 37 ≡ first m.to_come = ap Some (sym q) ∙ f in
+    let s = comment_shortens m n b i q f in (
+      λ d. ap (λ (t : Meaning). items (suc (depth + d)) t.to_come) i ∙ comment_skipped (depth + d) m.to_come g ∙ k d,
+      subst (Moved e) (sym i) (moved_on v (moved_class _ m)),
+      omega arith,
+      j ∙ l,
+    )

@@ -26,6 +26,7 @@ fn skip_angle<S: Source>(source: &mut S) -> Result<(), Open>
 }
 
 // After the [ of an array: passes its items and the ] that closes it.
+#[tactic(auto, using(crate::proofs::GapSteps::comment_shortens))]
 pub fn skip_array<S: Source>(source: &mut S) -> Result<(), Open>
     ensures skips { Skipped (λ d. items (suc d)) 1 result (S.Source.meaning source.old) (S.Source.meaning source.new) }
     ensures lies { S.Source.lies source.new ≡ S.Source.lies source.old }

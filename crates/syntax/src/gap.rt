@@ -5,6 +5,7 @@ use reader::class::{Blank, ByteClass, InComment, pass};
 use reader::source::Source;
 
 // Passes the gap: the longest row of blanks, comments, and marks << and >>.
+#[tactic(auto, using(crate::proofs::GapSteps::comment_shortens))]
 pub fn pass_gap<S: Source>(source: &mut S)
     ensures gap { GapPassed (S.Source.meaning source.old) (S.Source.meaning source.new) }
     ensures lies { S.Source.lies source.new ≡ S.Source.lies source.old }
