@@ -8,7 +8,7 @@ use objects::error::{Reason, Refusal};
 use postscript::scanner::Scanner;
 use reader::lent::Lent;
 use std::io;
-use std::io::{BufWriter, Read, Write};
+use std::io::{Read, Write};
 
 // The most bytes that are read.
 const MOST: usize = 65_536;
@@ -59,7 +59,8 @@ fn list<W: Write>(job: &[u8], output: &mut W) -> io::Result<()> {
 
 fn main(rt: HostRuntime) -> io::Result<()> {
     let mut input = rt.stdin();
-    let mut output = BufWriter::new(rt.alloc(), rt.stdout())?;
+    // Each line is one write: a buffer would be on the heap.
+    let mut output = rt.stdout();
     let mut bytes = [0u8; MOST];
     let mut more = [0u8; 1];
     let count = fill(&mut input, &mut bytes)?;
