@@ -1,11 +1,16 @@
+// Bytes as the tables of cases write them: two hexadecimal digits each.
 #![tactic(auto)]
 
-// Bytes as the tables of cases write them: two hexadecimal digits each.
+ghost use Rattle.std.specs.Prelude.{◌≡◌, IfOk, string_bytes};
+ghost use Rattle.hexdigits.specs.Digits.{bytes_of, digits_of};
+
 use reader::class::digit_worth;
 use std::alloc::{AllocError, Global};
 
 // The bytes of hexadecimal digits.
-pub fn unhex(heap: Global, digits: &[u8]) -> Result<Vec<u8>, AllocError> {
+pub fn unhex(heap: Global, digits: &[u8]) -> Result<Vec<u8>, AllocError>
+    ensures { IfOk result (λ v. v.items ≡ bytes_of digits.now) }
+{
     let mut bytes = Vec::new(heap);
     let mut high = None;
     for d in digits {
@@ -22,7 +27,9 @@ pub fn unhex(heap: Global, digits: &[u8]) -> Result<Vec<u8>, AllocError> {
 }
 
 // The hexadecimal digits of bytes.
-pub fn hex(heap: Global, bytes: &[u8]) -> Result<String, AllocError> {
+pub fn hex(heap: Global, bytes: &[u8]) -> Result<String, AllocError>
+    ensures { IfOk result (λ s. string_bytes s ≡ digits_of bytes.now) }
+{
     let mut digits = String::new(heap);
     for b in bytes {
         digits.push_str(format!(in heap; "{b:02x}")?.as_str())?;
