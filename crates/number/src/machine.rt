@@ -8,7 +8,7 @@ ghost use Rattle.number.specs.Runs.{as_reading};
 
 use super::decimal::Decimal;
 use super::state::{Mantissa, Sign, State};
-use reader::class::{ByteClass, Regular, digit_worth, pass};
+use reader::class::{ByteClass, Class, digit_worth, pass};
 use reader::source::Source;
 
 // What a run of regular bytes is.
@@ -244,13 +244,13 @@ pub fn read<S: Source>(source: &mut S) -> Reading
 {
     let mut state = State::Start;
     while let Some(b) = source.peek() {
-        if is_dead(state) || !Regular.contains(b) {
+        if is_dead(state) || !Class::Regular.contains(b) {
             break;
         }
         state = next(state, b);
         source.step();
     }
     // what is left of a run that is no number
-    pass(source, &Regular);
+    pass(source, &Class::Regular);
     finish(state)
 }

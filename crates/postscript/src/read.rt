@@ -16,8 +16,8 @@ use objects::name::Name;
 use objects::object::Object;
 use objects::part::Part;
 use objects::string::{Form, String};
-use reader::class::{ByteClass, Regular, pass};
-use reader::source::{Ending, Fault, Source, Windowed};
+use reader::class::{ByteClass, Class, pass};
+use reader::source::{Fault, Source, Windowed};
 use syntax::array::skip_array;
 use syntax::gap::pass_gap;
 use syntax::open::Open;
@@ -28,7 +28,7 @@ fn at_end_or<S: Source>(source: &S, clean: Reason) -> Reason
     ensures { (S.Source.meaning source.now).to_come ≡ [] → AtEnd (S.Source.meaning source.now).ending «clean» result }
 {
     match source.ending() {
-        Some(Ending::Fault(f)) => Reason::Fault(f),
+        Some(Err(f)) => Reason::Fault(f),
         _ => clean,
     }
 }
@@ -144,7 +144,7 @@ fn run_end<S: Source>(source: &S) -> Result<(), Fault>
     ensures { MatchResult result (λ _. RunEnds (S.Source.meaning source.now).to_come (S.Source.meaning source.now).ending) (λ f. ((S.Source.meaning source.now).to_come ≡ []) × ((S.Source.meaning source.now).ending ≡ fault f.layer f.cause)) }
 {
     match source.ending() {
-        Some(Ending::Fault(f)) => Err(f),
+        Some(Err(f)) => Err(f),
         _ => Ok(()),
     }
 }
@@ -157,7 +157,7 @@ fn literal_name<S: Windowed>(source: &mut S) -> Result<Object<S::Inside>, Refusa
     let start = source.place();
     source.step();
     let from = *source;
-    pass(source, &Regular);
+    pass(source, &Class::Regular);
     if let Err(f) = run_end(source) {
         return Err(Refusal {
             place: start,
@@ -208,7 +208,7 @@ fn executable_name<S: Windowed>(source: &mut S) -> Result<Object<S::Inside>, Ref
 {
     let place = source.place();
     let from = *source;
-    pass(source, &Regular);
+    pass(source, &Class::Regular);
     if let Err(f) = run_end(source) {
         return Err(Refusal {
             place,

@@ -9,7 +9,7 @@ use objects::error::Refusal;
 use objects::name::Name;
 use objects::object::Object;
 use objects::string::String;
-use reader::source::{Ending, Source, Windowed};
+use reader::source::{Source, Windowed};
 use single::value::Number;
 use syntax::gap::pass_gap;
 
@@ -36,15 +36,13 @@ impl<S: Windowed> Scanner<S> {
     }
 
     // Passes the gap, and says whether a clean end is reached.
+    #[tactic(auto, using(crate::proofs::Looking::looked))]
     pub fn at_end(&mut self) -> bool
         ensures turn { (g : List ℕ) × Turn (S.Source.meaning self.old.source) at_end (yes_no result) (gap g ∷ []) (S.Source.meaning self.new.source) }
         ensures lies { S.Source.lies self.new.source ≡ S.Source.lies self.old.source }
     {
         pass_gap(&mut self.source);
-        match self.source.ending() {
-            Some(Ending::Clean) => true,
-            _ => false,
-        }
+        matches!(self.source.ending(), Some(Ok(())))
     }
 
     // The object after the gap, or the refusal of what stands there.

@@ -15,10 +15,6 @@ class_step c b m =
       | x ∷ xs ↦ λ e h. let q : c x ≡ true = cc in rw (q, add_assoc, one-add)
     ]
 
--- with no byte to come a step changes nothing
-pub still : (m : Meaning) → m.to_come ≡ [] → stepped m ≡ m
-still m e = rw (e, add-zero)
-
 pub moved_none : (m : Meaning) → Moved m m
 moved_none m = record { forward = omega arith; end = refl; ending = refl }
 

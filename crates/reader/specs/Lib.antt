@@ -1,3 +1,4 @@
 pub mod Addresses
+pub mod Classes
 pub mod Endings
 pub mod Lent

@@ -2,6 +2,7 @@ ghost use Rattle.std.specs.Prelude.{◌≡◌, ℕ, Bool, not, ◌==◌, bit_and
 ghost use Rattle.definitions.specs.Bytes.{blank, delimiter, regular, comment_end, digit, octal, other_than};
 ghost use Rattle.definitions.specs.Moves.{past_class};
 ghost use Rattle.definitions.specs.Numbers.{digit_worth};
+ghost use Rattle.reader.specs.Classes.{members};
 
 use super::source::Source;
 
@@ -54,87 +55,39 @@ pub trait ByteClass {
         ensures { result ≡ member self.now b };
 }
 
-// 00 09 0A 0C 0D 20
-#[derive(Clone, Copy)]
-pub struct Blank;
-
-impl ByteClass for Blank {
-    ghost member = { λ _. blank };
-
-    fn contains(&self, b: u8) -> bool {
-        marks_of(b) & BLANK != 0
-    }
+// The classes of the table.
+#[derive(Clone, Copy, PartialEq, Eq, Debug)]
+pub enum Class {
+    // 00 09 0A 0C 0D 20
+    Blank,
+    // ( ) < > [ ] { } / %
+    Delimiter,
+    // neither blank nor delimiter
+    Regular,
+    // 0A 0D 0C
+    CommentEnd,
+    // any byte that does not end a comment
+    InComment,
+    // 0 to 9
+    Digit,
+    // 0 to 7
+    Octal,
 }
 
-// ( ) < > [ ] { } / %
-#[derive(Clone, Copy)]
-pub struct Delimiter;
-
-impl ByteClass for Delimiter {
-    ghost member = { λ _. delimiter };
+impl ByteClass for Class {
+    ghost member = { members };
 
     fn contains(&self, b: u8) -> bool {
-        marks_of(b) & DELIMITER != 0
-    }
-}
-
-// Neither blank nor delimiter.
-#[derive(Clone, Copy)]
-pub struct Regular;
-
-impl ByteClass for Regular {
-    ghost member = { λ _. regular };
-
-    fn contains(&self, b: u8) -> bool {
-        marks_of(b) & (BLANK | DELIMITER) == 0
-    }
-}
-
-// 0A 0D 0C
-#[derive(Clone, Copy)]
-pub struct CommentEnd;
-
-impl ByteClass for CommentEnd {
-    ghost member = { λ _. comment_end };
-
-    fn contains(&self, b: u8) -> bool {
-        marks_of(b) & COMMENT_END != 0
-    }
-}
-
-// Any byte that does not end a comment.
-#[derive(Clone, Copy)]
-pub struct InComment;
-
-impl ByteClass for InComment {
-    ghost member = { λ _ b. not (comment_end b) };
-
-    fn contains(&self, b: u8) -> bool {
-        !CommentEnd.contains(b)
-    }
-}
-
-// 0 to 9
-#[derive(Clone, Copy)]
-pub struct Digit;
-
-impl ByteClass for Digit {
-    ghost member = { λ _. digit };
-
-    fn contains(&self, b: u8) -> bool {
-        marks_of(b) & DIGIT != 0
-    }
-}
-
-// 0 to 7
-#[derive(Clone, Copy)]
-pub struct Octal;
-
-impl ByteClass for Octal {
-    ghost member = { λ _. octal };
-
-    fn contains(&self, b: u8) -> bool {
-        marks_of(b) & OCTAL != 0
+        let marks = marks_of(b);
+        match self {
+            Class::Blank => marks & BLANK != 0,
+            Class::Delimiter => marks & DELIMITER != 0,
+            Class::Regular => marks & (BLANK | DELIMITER) == 0,
+            Class::CommentEnd => marks & COMMENT_END != 0,
+            Class::InComment => marks & COMMENT_END == 0,
+            Class::Digit => marks & DIGIT != 0,
+            Class::Octal => marks & OCTAL != 0,
+        }
     }
 }
 

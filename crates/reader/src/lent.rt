@@ -1,7 +1,7 @@
-ghost use Rattle.std.specs.Prelude.{◌≡◌, ◌<◌, length, Some};
-ghost use Rattle.definitions.specs.Sources.{lent};
+ghost use Rattle.std.specs.Prelude.{◌≡◌, ◌<◌, length, Some, nat_lt};
+ghost use Rattle.definitions.specs.Sources.{lent, limit};
 ghost use Rattle.reader.specs.Addresses.{further};
-ghost use Rattle.reader.specs.Lent.{lent_at, lent_limited};
+ghost use Rattle.reader.specs.Lent.{lent_at, lent_limited, lies_at};
 
 use super::source::{Ending, Fault, Source, Windowed};
 
@@ -21,21 +21,27 @@ pub struct Lent<'a> {
 impl<'a> Lent<'a> {
     pub fn new(bytes: &'a [u8]) -> Lent<'a>
         ensures means { lent_at result ≡ lent bytes.now }
-        ensures lies { result.bytes.ref_ptr ≡ bytes.entry.ref_ptr }
+        ensures lies { lies_at result ≡ Some bytes.entry.ref_ptr }
     {
         Lent { bytes, at: 0 }
+    }
+
+    fn is_too_long(&self) -> bool
+        ensures { result ≡ nat_lt limit (length self.now.bytes.now) }
+    {
+        self.bytes.len() > LIMIT
     }
 
     // The bytes to come: a part of the caller's slice, at its place.
     pub fn to_come(&self) -> &'a [u8]
         ensures bytes { result.now ≡ (lent_at self.now).to_come }
-        ensures lies { 0 < length result.now → Some result.ref_ptr ≡ further self.now.at (Some self.now.bytes.ref_ptr) }
+        ensures lies { 0 < length result.now → Some result.ref_ptr ≡ further (lent_at self.now).place (lies_at self.now) }
     {
         let at = self.at as usize;
-        if self.bytes.len() <= LIMIT && at <= self.bytes.len() {
+        if at <= self.bytes.len() && !self.is_too_long() {
             &self.bytes[at..]
         } else {
-            &self.bytes[0..0]
+            &self.bytes[..0]
         }
     }
 }
@@ -45,20 +51,14 @@ impl<'a> Source for Lent<'a> {
 
     ghost limited = { lent_limited };
 
-    ghost lies = { λ s. Some s.bytes.ref_ptr };
+    ghost lies = { lies_at };
 
     fn peek(&self) -> Option<u8> {
-        let at = self.at as usize;
-        if self.bytes.len() <= LIMIT && at < self.bytes.len() {
-            Some(self.bytes[at])
-        } else {
-            None
-        }
+        self.to_come().first().copied()
     }
 
     fn step(&mut self) {
-        let at = self.at as usize;
-        if self.bytes.len() <= LIMIT && at < self.bytes.len() {
+        if !self.to_come().is_empty() {
             self.at += 1;
         }
     }
@@ -68,14 +68,12 @@ impl<'a> Source for Lent<'a> {
     }
 
     fn ending(&self) -> Option<Ending> {
-        if self.bytes.len() > LIMIT {
-            return Some(Ending::Fault(Fault { layer: 1, cause: 1 }));
-        }
-        let at = self.at as usize;
-        if at < self.bytes.len() {
-            None
+        if self.is_too_long() {
+            Some(Err(Fault { layer: 1, cause: 1 }))
+        } else if self.to_come().is_empty() {
+            Some(Ok(()))
         } else {
-            Some(Ending::Clean)
+            None
         }
     }
 }
@@ -84,37 +82,11 @@ impl<'a> Windowed for Lent<'a> {
     type Inside = Lent<'a>;
 
     fn window(&self, n: u32) -> Lent<'a> {
-        let at = self.at as usize;
-        let end = at + n as usize;
-        if self.bytes.len() > LIMIT {
-            // no bytes: a window of none ends cleanly, any other at the fault
-            return if n == 0 {
-                Lent {
-                    bytes: &self.bytes[0..0],
-                    at: 0,
-                }
-            } else {
-                Lent {
-                    bytes: self.bytes,
-                    at: 0,
-                }
-            };
+        if n > 0 && self.is_too_long() {
+            // no byte of it is to come, and it ends at the fault
+            return Lent::new(self.bytes);
         }
-        if end <= self.bytes.len() {
-            Lent {
-                bytes: &self.bytes[at..end],
-                at: 0,
-            }
-        } else if at < self.bytes.len() {
-            Lent {
-                bytes: &self.bytes[at..],
-                at: 0,
-            }
-        } else {
-            Lent {
-                bytes: &self.bytes[0..0],
-                at: 0,
-            }
-        }
+        let left = self.to_come();
+        Lent::new(&left[..(n as usize).min(left.len())])
     }
 }

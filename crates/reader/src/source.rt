@@ -12,12 +12,8 @@ pub struct Fault {
     pub cause: u8,
 }
 
-// How a source's bytes run out.
-#[derive(Clone, Copy, PartialEq, Eq, Debug)]
-pub enum Ending {
-    Clean,
-    Fault(Fault),
-}
+// How a source's bytes run out: cleanly, or at a fault.
+pub type Ending = Result<(), Fault>;
 
 // A source means the bytes to come, the place of the first of them, and how they run out. A copy
 // means the same as its original, since it is the same value.

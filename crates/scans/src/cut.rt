@@ -43,7 +43,7 @@ impl<'a> Source for Cut<'a> {
             return None;
         };
         match self.fault {
-            Some(f) => Some(Ending::Fault(f)),
+            Some(f) => Some(Err(f)),
             None => Some(below),
         }
     }

@@ -4,7 +4,7 @@ ghost use Rattle.syntax.specs.Skips.{Skipped};
 
 use super::open::Open;
 use super::string::{skip_ascii85, skip_hex, skip_literal};
-use reader::class::{ByteClass, InComment, pass};
+use reader::class::{ByteClass, Class, pass};
 use reader::source::Source;
 
 // After a < in an array: passes the second < of a mark, or a string.
@@ -37,7 +37,7 @@ pub fn skip_array<S: Source>(source: &mut S) -> Result<(), Open>
             break 'array;
         };
         match b {
-            b'%' => pass(source, &InComment),
+            b'%' => pass(source, &Class::InComment),
             b'[' => {
                 source.step();
                 depth += 1;

@@ -1,7 +1,7 @@
 ghost use Rattle.std.specs.Prelude.{◌≡◌};
 ghost use Rattle.definitions.specs.PlainReader.{GapPassed};
 
-use reader::class::{Blank, ByteClass, InComment, pass};
+use reader::class::{ByteClass, Class, pass};
 use reader::source::Source;
 
 // Passes the gap: the longest row of blanks, comments, and marks << and >>.
@@ -15,8 +15,8 @@ pub fn pass_gap<S: Source>(source: &mut S)
             break 'gap;
         };
         match b {
-            _ if Blank.contains(b) => source.step(),
-            b'%' => pass(source, &InComment),
+            _ if Class::Blank.contains(b) => source.step(),
+            b'%' => pass(source, &Class::InComment),
             b'<' | b'>' => {
                 let mut ahead = *source;
                 ahead.step();

@@ -1,7 +1,7 @@
 ghost use Rattle.text.specs.Answers.{Decodable};
 
 use super::undecoded::Undecoded;
-use reader::source::{Ending, Source};
+use reader::source::Source;
 
 // Goes through the whole text before a byte is written, so that a refusal leaves the buffer as it
 // was: a fault comes first, then a lone backslash, then too little room.
@@ -16,7 +16,7 @@ pub(crate) fn check<S: Source>(source: S, room: usize) -> Result<(), Undecoded>
         count += 1;
         escaping = !escaping && b == b'\\';
     }
-    if let Some(Ending::Fault(fault)) = left.ending() {
+    if let Some(Err(fault)) = left.ending() {
         return Err(Undecoded::Fault(fault));
     }
     if escaping {

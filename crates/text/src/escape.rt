@@ -4,7 +4,7 @@ ghost use Rattle.definitions.specs.LiteralText.{decode, escaped, decode_escape, 
 ghost use Rattle.text.specs.Answers.{onto};
 
 use super::newline::pass_feed;
-use reader::class::{ByteClass, Octal};
+use reader::class::{ByteClass, Class};
 use reader::source::Source;
 
 // What a byte stands for after a backslash.
@@ -31,7 +31,7 @@ fn octal_byte<S: Source>(digit: u8, source: &mut S) -> u8
     let mut value = (digit - b'0') as u16;
     let mut digits: u8 = 1;
     while let Some(b) = source.peek() {
-        if digits == 3 || !Octal.contains(b) {
+        if digits == 3 || !Class::Octal.contains(b) {
             break;
         }
         source.step();
