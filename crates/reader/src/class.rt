@@ -105,7 +105,8 @@ impl ByteClass for Except {
     }
 }
 
-// What a digit or a letter of either case is worth; 36 for any other byte.
+// What a digit or a letter of either case is worth. Any other byte is worth 36, more than any digit
+// of a base, so that one comparison tells a base's digits: an Option would be taken apart first.
 pub fn digit_worth(b: u8) -> u8
     ensures { result ≡ digit_worth b }
 {

@@ -11,7 +11,8 @@ pub const LIMIT: usize = 4_294_967_295;
 // Lent bytes, layer 1: a slice, and the place reached in it. The bytes and the place are kept
 // apart, and every value means something, so no fact about the two is needed. A slice longer than
 // the limit means no bytes and a fault; its length is tested again at each call, which costs
-// nothing in a loop, where it does not change.
+// nothing in a loop, where it does not change. What it means is told by functions of its fields
+// (specs/Lent.antt), since a type with a lifetime that is Copy can have no Model.
 #[derive(Clone, Copy)]
 pub struct Lent<'a> {
     bytes: &'a [u8],

@@ -20,10 +20,8 @@ pub type Ending = Result<(), Fault>;
 pub trait Source: Copy {
     ghost meaning: { Self → Meaning };
 
-    // place plus bytes to come never passes 4,294,967,295
-    ghost limited: { (s : Self) → InLimit (meaning s) };
-
-    // where place 0 lies in memory, for a source that holds its bytes there
+    // Where place 0 lies in memory, for a source that holds its bytes there. No move changes that. Each
+    // function that moves a source says so, since a fact in a type tells of one value, not of two.
     ghost lies: { Self → Option Address };
 
     // The first byte to come, or none.
@@ -41,6 +39,9 @@ pub trait Source: Copy {
     // None while a byte is to come.
     fn ending(&self) -> Option<Ending>
         ensures { heard result ≡ ending_told (meaning self.now).to_come (meaning self.now).ending };
+
+    // A law: place plus bytes to come never passes 4,294,967,295.
+    ghost limited: { (s : Self) → InLimit (meaning s) };
 }
 
 // A source of which the next n bytes can be handed out as a source of their own: what an object's

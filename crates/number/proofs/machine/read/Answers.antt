@@ -22,7 +22,7 @@ loop-b-preserved g c =
           ∙ one_byte b m.to_come s peeked in_class
           ∙ c.loop-b.invariant.1,
       subst (λ n. Sound (length n.to_come) c.next-state.result) (sym {b = stepped m} c.step.ensures.means)
-          (subst (Sound (length (rest m.to_come))) (sym {b = next_of s b} c.next-state.ensures) (sound_byte b m.to_come s peeked (omega (arith, g.S.Source.limited c.loop-b.source)) c.loop-b.invariant.2)),
+          (subst (Sound (length (rest m.to_come))) (sym {b = next_of s b} c.next-state.ensures) (sound_byte b m.to_come s peeked (omega (arith, g.met.S.Source.limited c.loop-b.source)) c.loop-b.invariant.2)),
       c.step.ensures.lies ∙ c.loop-b.invariant.3,
     )
 
@@ -33,7 +33,7 @@ returns g c =
     record {
       stands = c.pass.ensures.means ∙ c.loop-b.invariant.0;
       lies = c.pass.ensures.lies ∙ c.loop-b.invariant.3;
-      reads = answers (g.S.Source.meaning c.args.source.now).to_come s (front regular bs) (as_reading c.finish.result) (omega (arith, g.S.Source.limited c.args.source.now)) c.loop-b.invariant.1
+      reads = answers (g.S.Source.meaning c.args.source.now).to_come s (front regular bs) (as_reading c.finish.result) (omega (arith, g.met.S.Source.limited c.args.source.now)) c.loop-b.invariant.1
           (elim c.match-peek.branch [
             | in-Some+then-is_dead w ↦ elim w.then-is_dead.branch [
               | then-is_dead-via-then-is_dead v ↦ at_dead (front regular bs) s (sym {b = dead s} v.if-is_dead.ensures)
