@@ -1,6 +1,7 @@
 ghost use Rattle.std.specs.Prelude.{◌≡◌, ◌^◌, ◌<◌, true, pos, neg_ℤ, ◌≤ℤ◌, MatchOption, IsTrue, ◌↔◌};
 ghost use Rattle.definitions.specs.Numbers.{Decimal as Limits};
 
+use std::fmt;
 use std::marker::Model;
 
 // A real as its run writes it: worth c × 10^k, below 0 where it is negative. Its limits are in its
@@ -70,5 +71,18 @@ impl Decimal {
         ensures high { result ≤ℤ pos 99 }
     {
         self.k
+    }
+}
+
+// As `-5e-1`: c, e and k, after a minus where it is negative.
+impl fmt::Display for Decimal {
+    ghost use Rattle.std.specs.Prelude.{Some};
+    ghost use Rattle.number.specs.Scaled.{text};
+
+    ghost output = { λ d. Some (text d) };
+
+    fn fmt<W: fmt::Write>(&self, f: &mut fmt::Formatter<W>) -> fmt::Result {
+        let sign = if self.negative { "-" } else { "" };
+        write!(f, "{sign}{}e{}", self.c, self.k)
     }
 }
