@@ -1,17 +1,36 @@
-ghost use Rattle.std.specs.Prelude.{◌≡◌, ◌^◌, ◌<◌, true, pos, neg_ℤ, ◌≤ℤ◌, MatchOption};
+ghost use Rattle.std.specs.Prelude.{◌≡◌, ◌^◌, ◌<◌, true, pos, neg_ℤ, ◌≤ℤ◌, MatchOption, IsTrue, ◌↔◌};
 ghost use Rattle.definitions.specs.Numbers.{Decimal as Limits};
+
+use std::fmt;
+use std::marker::Model;
 
 // A real as its run writes it: worth c × 10^k, below 0 where it is negative. Its limits are in its
 // type: c is below 10^18, k is from -99 to 99, and k is 0 where c is.
-#[derive(Clone, Copy)]
+#[derive(Clone, Copy, PartialEq, Eq, Debug)]
 pub struct Decimal {
     negative: bool,
     c: u64,
     k: i8,
-    ghost digits: { c < 10 ^ 18 },
-    ghost low: { neg_ℤ (pos 99) ≤ℤ k },
-    ghost high: { k ≤ℤ pos 99 },
-    ghost plain: { c ≡ 0 → k ≡ pos 0 },
+}
+
+impl Model for Decimal {
+    ghost use Rattle.definitions.specs.Numbers.{Decimal as Limits};
+    ghost use Rattle.number.specs.Scaled.{Scaled};
+
+    ghost Value = { Scaled };
+
+    ghost view = { λ d. record { negative = d.negative; c = d.c; k = d.k } };
+
+    ghost invariant = { λ d. Limits d.c d.k };
+
+    ghost inverse = { λ d. record { negative = d.negative; c = d.c; k = d.k } };
+}
+
+// Whether a decimal may have this c and k.
+fn within(c: u64, k: i8) -> bool
+    ensures { IsTrue result ↔ Limits c k }
+{
+    c < 1_000_000_000_000_000_000 && (-99..=99).contains(&k) && (c != 0 || k == 0)
 }
 
 impl Decimal {
@@ -19,17 +38,18 @@ impl Decimal {
     pub fn new(negative: bool, c: u64, k: i8) -> Option<Decimal>
         ensures { MatchOption result (Limits c k → ⊥) (λ d. (d.negative ≡ negative) × (d.c ≡ c) × (d.k ≡ k)) }
     {
-        if c >= 1_000_000_000_000_000_000 || k < -99 || k > 99 || (c == 0 && k != 0) {
-            return None;
+        if within(c, k) {
+            Some(Decimal { negative, c, k })
+        } else {
+            None
         }
-        Some(Decimal { negative, c, k })
     }
 
     // Every decimal is within the limits.
     pub fn is_within(&self) -> bool
         ensures { (result ≡ true) × Limits self.now.c self.now.k }
     {
-        true
+        within(self.c, self.k)
     }
 
     pub fn is_negative(&self) -> bool
@@ -39,14 +59,30 @@ impl Decimal {
     }
 
     pub fn c(&self) -> u64
-        ensures { result ≡ self.now.c }
+        ensures value { result ≡ self.now.c }
+        ensures limit { result < 10 ^ 18 }
     {
         self.c
     }
 
     pub fn k(&self) -> i8
-        ensures { result ≡ self.now.k }
+        ensures value { result ≡ self.now.k }
+        ensures low { neg_ℤ (pos 99) ≤ℤ result }
+        ensures high { result ≤ℤ pos 99 }
     {
         self.k
+    }
+}
+
+// As `-5e-1`: c, e and k, after a minus where it is negative.
+impl fmt::Display for Decimal {
+    ghost use Rattle.std.specs.Prelude.{Some};
+    ghost use Rattle.number.specs.Scaled.{text};
+
+    ghost output = { λ d. Some (text d) };
+
+    fn fmt<W: fmt::Write>(&self, f: &mut fmt::Formatter<W>) -> fmt::Result {
+        let sign = if self.negative { "-" } else { "" };
+        write!(f, "{sign}{}e{}", self.c, self.k)
     }
 }

@@ -1,5 +1,7 @@
 #![tactic(auto)]
 
+mod capped;
 pub mod decimal;
 pub mod machine;
+mod mantissa;
 mod state;

@@ -84,12 +84,13 @@ module _ (num den n d s k q r : ℕ) (E : 0 < den) (P : 0 < s) (x : num * 2 ^ 14
   nearest_since m b (inr h) = subst (λ t. NearestTo num den (k * 2 ^ 23 + t)) (sym h.0) (high h.1 (omega arith) h.2)
 
 -- shifted by its leading zeros a number keeps all its bits, and has the highest set
-pub normalises : (n : ℕ) → 0 < n → n < 2 ^ 64 → (n * 2 ^ count_leading_zeros 64 n % 2 ^ 64 ≡ n * 2 ^ count_leading_zeros 64 n) × (2 ^ 63 ≤ n * 2 ^ count_leading_zeros 64 n) × (count_leading_zeros 64 n ≤ 63)
+pub normalises : (n : ℕ) → 0 < n → n < 2 ^ 64 → (n * 2 ^ count_leading_zeros 64 n % 2 ^ 64 ≡ n * 2 ^ count_leading_zeros 64 n) × (2 ^ 63 ≤ n * 2 ^ count_leading_zeros 64 n % 2 ^ 64) × (count_leading_zeros 64 n ≤ 63)
 normalises n p h =
     let (j, e, l, u) = leading_top 64 n p h in
-    let i : j + count_leading_zeros 64 n ≡ 63 = omega arith in (
-      shl_whole n (suc j) (count_leading_zeros 64 n) 64 u (omega arith),
-      subst (λ t. t ≤ n * 2 ^ count_leading_zeros 64 n) (sym (pow-add 2 j (count_leading_zeros 64 n)) ∙ ap (λ t. 2 ^ t) i) (mul-le-mul_right (2 ^ count_leading_zeros 64 n) l),
+    let i : j + count_leading_zeros 64 n ≡ 63 = omega arith in
+    let k = shl_whole n (suc j) (count_leading_zeros 64 n) 64 u (omega arith) in (
+      k,
+      rw k (subst (λ t. t ≤ n * 2 ^ count_leading_zeros 64 n) (sym (pow-add 2 j (count_leading_zeros 64 n)) ∙ ap (λ t. 2 ^ t) i) (mul-le-mul_right (2 ^ count_leading_zeros 64 n) l)),
       omega arith,
     )
 

@@ -15,6 +15,7 @@ pub enum Number {
 impl Number {
     // An integer as it is. A float without its fraction, stopped at the ends of 32 bits; what is no
     // number gives 0.
+    #[tactic(auto, using(crate::proofs::Cut::integer_of_float))]
     pub fn as_i32(self) -> i32
         ensures { IntegerOfNumber self result }
     {
@@ -26,6 +27,7 @@ impl Number {
 }
 
 // The bits of a float. What is no number has many, of which this gives one.
+#[tactic(auto, using(crate::proofs::Cut::bits_back))]
 pub fn to_bits(x: f32) -> u32
     ensures written { result ≡ to_bits binary32 x }
     ensures read { (bits : ℕ) → bits < 4294967296 → size bits ≤ infinite → x ≡ from_bits binary32 bits → result ≡ bits }

@@ -1,6 +1,8 @@
-ghost use Rattle.std.specs.Prelude.{◌≡◌, ◌*◌, ◌^◌, ◌<◌, ◌≤◌, MatchOption};
+ghost use Rattle.std.specs.Prelude.{◌≡◌, ◌<◌, MatchOption};
 ghost use Rattle.definitions.specs.PlainReader.{Near};
 ghost use Rattle.single.specs.Fractions.{WorthOf};
+
+use number::decimal::Decimal;
 
 // num / den.
 #[derive(Clone, Copy)]
@@ -12,69 +14,24 @@ pub(crate) struct Fraction {
 // A near real stays below this at each factor of ten.
 const MOST: u64 = 1_000_000_000_000_000_000;
 
-const MOST_FACTORS: u8 = 18;
-
-const POWERS: [u64; 19] = [
-    1,
-    10,
-    100,
-    1_000,
-    10_000,
-    100_000,
-    1_000_000,
-    10_000_000,
-    100_000_000,
-    1_000_000_000,
-    10_000_000_000,
-    100_000_000_000,
-    1_000_000_000_000,
-    10_000_000_000_000,
-    100_000_000_000_000,
-    1_000_000_000_000_000,
-    10_000_000_000_000_000,
-    100_000_000_000_000_000,
-    1_000_000_000_000_000_000,
-];
-
-fn power(k: u8) -> u64
-    requires { k ≤ 18 }
-    ensures { result ≡ 10 ^ k }
-{
-    POWERS[k as usize]
-}
-
-// c × 10^k, if it stays below 10^18 at each factor.
-fn raised(c: u64, k: u8) -> Option<u64>
-    requires { c < 10 ^ 18 }
-    ensures { MatchOption result (10 ^ 18 ≤ c * 10 ^ k) (λ n. (n ≡ c * 10 ^ k) × (n < 10 ^ 18)) }
-{
-    let mut n = c;
-    for _ in 0..k {
-        n *= 10;
-        if n >= MOST {
-            return None;
-        }
-    }
-    Some(n)
-}
+const MOST_FACTORS: u32 = 18;
 
 // None where the real is far.
-pub(crate) fn worth(c: u64, k: i8) -> Option<Fraction>
-    requires { c < 10 ^ 18 }
-    ensures { MatchOption result (Near c k → ⊥) (λ w. Near c k × WorthOf c k w.num w.den × (0 < w.den)) }
+pub(crate) fn worth(real: &Decimal) -> Option<Fraction>
+    ensures { MatchOption result (Near real.now.c real.now.k → ⊥) (λ w. Near real.now.c real.now.k × WorthOf real.now.c real.now.k w.num w.den × (0 < w.den)) }
 {
-    let factors = k.unsigned_abs();
+    let factors = u32::from(real.k().unsigned_abs());
     if factors > MOST_FACTORS {
         return None;
     }
-    if k < 0 {
+    let power = 10u64.pow(factors);
+    if real.k() < 0 {
         return Some(Fraction {
-            num: c,
-            den: power(factors),
+            num: real.c(),
+            den: power,
         });
     }
-    match raised(c, factors) {
-        Some(num) => Some(Fraction { num, den: 1 }),
-        None => None,
-    }
+    // the last product is the greatest, so that it alone is tried
+    let num = real.c().checked_mul(power).filter(|n| *n < MOST)?;
+    Some(Fraction { num, den: 1 })
 }

@@ -1,18 +1,11 @@
 ghost use Rattle.std.specs.Prelude.{◌≡◌, Some, IfOk, string_bytes};
 ghost use Rattle.number.specs.Runs.{as_reading};
-ghost use Rattle.vectors.specs.Words.{minus, words, number_words};
+ghost use Rattle.vectors.specs.Words.{words, number_words};
 
-use number::decimal::Decimal;
 use number::machine::{Reading, read};
 use reader::lent::Lent;
 use std::alloc::{AllocError, Global};
 use std::fmt;
-
-fn sign(d: Decimal) -> &'static str
-    ensures { result.now ≡ minus d.negative }
-{
-    if d.is_negative() { "-" } else { "" }
-}
 
 // A reading as the table writes it: `integer 5`, `real -5e-1`, `limits` or `name`.
 #[derive(Clone, Copy)]
@@ -24,7 +17,7 @@ impl fmt::Display for Words {
     fn fmt<W: fmt::Write>(&self, f: &mut fmt::Formatter<W>) -> fmt::Result {
         match self.0 {
             Reading::Integer(n) => write!(f, "integer {n}"),
-            Reading::Real(d) => write!(f, "real {}{}e{}", sign(d), d.c(), d.k()),
+            Reading::Real(d) => write!(f, "real {d}"),
             Reading::PastLimits => write!(f, "limits"),
             Reading::Name => write!(f, "name"),
         }

@@ -8,17 +8,17 @@ put_real-requires g c =
     let d = c.in-Real.d in
     let f : SFits w64 c.from-in-Real.result = search rules in
     let s : SFits w8 c.k.result = search rules in
-    let k : to_z w64 (of_z w64 c.from-in-Real.result) ≡ d.k = to_z-of_z f ∙ c.from-in-Real.ensures ∙ to_z-of_z s ∙ c.k.ensures in
-    rw (c.is_negative.ensures, c.c.ensures, k) (omega (arith, value_length 0 (real_value d.negative d.c d.k) (omega arith) (d.digits, d.low, d.high)))
+    let k : to_z w64 (of_z w64 c.from-in-Real.result) ≡ d.k = to_z-of_z f ∙ c.from-in-Real.ensures ∙ to_z-of_z s ∙ c.k.ensures.value in
+    rw (c.is_negative.ensures, c.c.ensures.value, k) (omega (arith, value_length 0 (real_value d.negative d.c d.k) (omega arith) (rw c.c.ensures.value at c.c.ensures.limit, rw c.k.ensures.value at c.k.ensures.low, rw c.k.ensures.value at c.k.ensures.high)))
 
 pub returns-in-Real : goal.returns-in-Real
 returns-in-Real g c =
     let d = c.in-Real.d in
     let f : SFits w64 c.from-in-Real.result = search rules in
     let s : SFits w8 c.k.result = search rules in
-    let k : to_z w64 (of_z w64 c.from-in-Real.result) ≡ d.k = to_z-of_z f ∙ c.from-in-Real.ensures ∙ to_z-of_z s ∙ c.k.ensures in
-    let t = rw (c.is_negative.ensures, c.c.ensures, k) at c.put_real.ensures in
+    let k : to_z w64 (of_z w64 c.from-in-Real.result) ≡ d.k = to_z-of_z f ∙ c.from-in-Real.ensures ∙ to_z-of_z s ∙ c.k.ensures.value in
+    let t = rw (c.is_negative.ensures, c.c.ensures.value, k) at c.put_real.ensures in
     record {
       text = rw c.in-Real.is t;
-      short = omega (arith, t.end, value_length 0 (real_value d.negative d.c d.k) (omega arith) (d.digits, d.low, d.high));
+      short = omega (arith, t.end, value_length 0 (real_value d.negative d.c d.k) (omega arith) (rw c.c.ensures.value at c.c.ensures.limit, rw c.k.ensures.value at c.k.ensures.low, rw c.k.ensures.value at c.k.ensures.high));
     }
