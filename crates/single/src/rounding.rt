@@ -1,6 +1,8 @@
 ghost use Rattle.std.specs.Prelude.{◌≡◌, ◌+◌, ◌*◌, ◌^◌, ◌<◌, ◌≤◌, ◌⊎◌};
 ghost use Rattle.single.specs.Fractions.{Rounds, NearestTo};
 
+use super::worth::Fraction;
+
 // A number times 2^shift, with the highest of its 64 bits set.
 #[derive(Clone, Copy)]
 struct Normalised {
@@ -53,16 +55,15 @@ fn rounded(q: u32, twice: u128, divisor: u128) -> u32
     }
 }
 
-// The bits of the single nearest to num / den.
-pub(crate) fn nearest_bits(num: u64, den: u64) -> u32
-    requires { 0 < den }
-    ensures { NearestTo num den result }
+// The bits of the single nearest to a fraction.
+pub(crate) fn nearest_bits(worth: &Fraction) -> u32
+    ensures { NearestTo worth.now.num worth.now.den result }
 {
-    if num == 0 {
+    if worth.num == 0 {
         return 0;
     }
-    let n = Normalised::new(num);
-    let d = Normalised::new(den);
+    let n = Normalised::new(worth.num);
+    let d = Normalised::new(worth.den);
     let more = n.more_bits(&d);
     let wide = (n.value as u128) << more;
     let divisor = d.value as u128;
