@@ -94,18 +94,23 @@ impl Mantissa {
         i32::try_from(signed(self.sign, self.c.get())).ok()
     }
 
-    // The real with this exponent, if it is within its limits: k is the exponent less the count of
-    // digits after the dot, and 0 where c is.
-    pub fn real(&self, sign: Option<Sign>, n: Capped<MOST_POWER>) -> Option<Decimal>
-        ensures { let k = settled self.now.c (signed (minus sign) n -ℤ pos self.now.places) in MatchOption result (Limits self.now.c k → ⊥) (λ d. (d.negative ≡ minus self.now.sign) × (d.c ≡ self.now.c) × (d.k ≡ k)) }
+    // k: the exponent less the count of digits after the dot, and 0 where c is.
+    fn scale(&self, sign: Option<Sign>, n: Capped<MOST_POWER>) -> i64
+        ensures { result ≡ settled self.now.c (signed (minus sign) n -ℤ pos self.now.places) }
     {
-        let c = self.c.get();
         let exponent = signed(sign, n.get());
-        let k = if c == 0 {
+        if self.c.get() == 0 {
             0
         } else {
             exponent - i64::from(self.places)
-        };
-        Decimal::new(is_minus(self.sign), c, i8::try_from(k).ok()?)
+        }
+    }
+
+    // The real with this exponent, if it is within its limits.
+    pub fn real(&self, sign: Option<Sign>, n: Capped<MOST_POWER>) -> Option<Decimal>
+        ensures { let k = settled self.now.c (signed (minus sign) n -ℤ pos self.now.places) in MatchOption result (Limits self.now.c k → ⊥) (λ d. (d.negative ≡ minus self.now.sign) × (d.c ≡ self.now.c) × (d.k ≡ k)) }
+    {
+        let k = i8::try_from(self.scale(sign, n)).ok()?;
+        Decimal::new(is_minus(self.sign), self.c.get(), k)
     }
 }
