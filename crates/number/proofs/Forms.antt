@@ -67,21 +67,21 @@ module _ (s : Option Sign) (c p : ℕ) where
   abbrev valued : ℤ → Reading
   valued x = real_reading (minus s) c (x -ℤ pos p)
 
-  exponent_digits : (t : Option Sign) (n : ℕ) (bs : List ℕ) → p ≤ 4294967295 → got (Power (mantissa s c p) t (min n (10 ^ 10))) bs ≡ cond (every digit bs) (valued (signed (minus t) (value_after 10 n bs))) name
+  exponent_digits : (t : Option Sign) (n : ℕ) (bs : List ℕ) → p ≤ 4294967295 → got (Power (mantissa s c p) (record { sign = t; n = min n (10 ^ 10) })) bs ≡ cond (every digit bs) (valued (signed (minus t) (value_after 10 n bs))) name
   exponent_digits t n [] h = c_cap (minus s) c (signed (minus t) (min n (10 ^ 10)) -ℤ pos p) ∙ x_cap (minus s) (minus t) c n p h
   exponent_digits t n (b ∷ bs) h = step (digit b) refl (exponent_digits t (n * 10 + digit_worth b) bs h)
     where
       step : (d : Bool) → digit b ≡ d
-          → got (Power (mantissa s c p) t (min (n * 10 + digit_worth b) (10 ^ 10))) bs ≡ cond (every digit bs) (valued (signed (minus t) (value_after 10 (n * 10 + digit_worth b) bs))) name
-          → got (cond d (Power (mantissa s c p) t (min (min n (10 ^ 10) * 10 + (b - 48)) (10 ^ 10))) Dead) bs ≡ cond (d && every digit bs) (valued (signed (minus t) (value_after 10 (n * 10 + digit_worth b) bs))) name
-      step true e ih = ap (λ k. got (Power (mantissa s c p) t k) bs) (more_digits n (10 ^ 10) b e) ∙ ih
+          → got (Power (mantissa s c p) (record { sign = t; n = min (n * 10 + digit_worth b) (10 ^ 10) })) bs ≡ cond (every digit bs) (valued (signed (minus t) (value_after 10 (n * 10 + digit_worth b) bs))) name
+          → got (cond d (Power (mantissa s c p) (record { sign = t; n = min (min n (10 ^ 10) * 10 + (b - 48)) (10 ^ 10) })) Dead) bs ≡ cond (d && every digit bs) (valued (signed (minus t) (value_after 10 (n * 10 + digit_worth b) bs))) name
+      step true e ih = ap (λ k. got (Power (mantissa s c p) (record { sign = t; n = k })) bs) (more_digits n (10 ^ 10) b e) ∙ ih
       step false e ih = dead_got bs
 
   power_run : (t : Option Sign) (b : ℕ) (bs : List ℕ) → p ≤ 4294967295 → got (power_of (mantissa s c p) t b) bs ≡ cond (digits_test (b ∷ bs)) (valued (signed (minus t) (value 10 (b ∷ bs)))) name
   power_run t b bs h = step (digit b) refl
     where
-      step : (d : Bool) → digit b ≡ d → got (cond d (Power (mantissa s c p) t (b - 48)) Dead) bs ≡ cond (d && every digit bs) (valued (signed (minus t) (value_after 10 (0 * 10 + digit_worth b) bs))) name
-      step true e = ap (λ k. got (Power (mantissa s c p) t k) bs) (first_digit (10 ^ 10) b (omega arith) e) ∙ exponent_digits t (0 * 10 + digit_worth b) bs h
+      step : (d : Bool) → digit b ≡ d → got (cond d (Power (mantissa s c p) (record { sign = t; n = b - 48 })) Dead) bs ≡ cond (d && every digit bs) (valued (signed (minus t) (value_after 10 (0 * 10 + digit_worth b) bs))) name
+      step true e = ap (λ k. got (Power (mantissa s c p) (record { sign = t; n = k })) bs) (first_digit (10 ^ 10) b (omega arith) e) ∙ exponent_digits t (0 * 10 + digit_worth b) bs h
       step false e = dead_got bs
 
   exponent_sign : (t : Sign) (bs : List ℕ) → p ≤ 4294967295 → got (ExponentSign (mantissa s c p) t) bs ≡ cond (digits_test bs) (valued (signed (minus (Some t)) (value 10 bs))) name

@@ -51,7 +51,7 @@ digits_of s b = cond (digit b) (Whole (whole_of s (b - digit_zero))) (cond (b ==
 
 -- an exponent's first digit, after its sign if it has one
 abbrev pub power_of : Mantissa → Option Sign → ℕ → State
-power_of m s b = cond (digit b) (Power m s (b - digit_zero)) Dead
+power_of m s b = cond (digit b) (Power m (record { sign = s; n = b - digit_zero })) Dead
 
 -- one byte more of a run
 abbrev pub next_of : State → ℕ → State
@@ -62,7 +62,7 @@ next_of (Dot s) b = cond (digit b) (Fraction (placed_of (whole_of s 0) (b - digi
 next_of (Fraction m) b = cond (digit b) (Fraction (placed_of m (b - digit_zero))) (cond (e_sign b) (Exponent m) Dead)
 next_of (Exponent m) b = cond (b == plus_sign) (ExponentSign m Plus) (cond (b == minus_sign) (ExponentSign m Minus) (power_of m None b))
 next_of (ExponentSign m s) b = power_of m (Some s) b
-next_of (Power m s n) b = cond (digit b) (Power m s (min (n * 10 + (b - digit_zero)) (10 ^ 10))) Dead
+next_of (Power m x) b = cond (digit b) (Power m (record { sign = x.sign; n = min (x.n * 10 + (b - digit_zero)) (10 ^ 10) })) Dead
 next_of (Radix r) b = radix_of r 0 b
 next_of (Bits r n) b = radix_of r n b
 next_of Dead b = Dead
@@ -76,7 +76,7 @@ finish_of (Dot s) = name
 finish_of (Fraction m) = real_reading (minus m.sign) m.c (pos 0 -ℤ pos m.places)
 finish_of (Exponent m) = name
 finish_of (ExponentSign m s) = name
-finish_of (Power m s n) = real_reading (minus m.sign) m.c (signed (minus s) n -ℤ pos m.places)
+finish_of (Power m x) = real_reading (minus m.sign) m.c (signed (minus x.sign) x.n -ℤ pos m.places)
 finish_of (Radix r) = name
 finish_of (Bits r n) = radix_reading n
 finish_of Dead = name

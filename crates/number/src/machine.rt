@@ -8,6 +8,7 @@ ghost use Rattle.number.specs.Runs.{as_reading};
 
 use super::capped::Capped;
 use super::decimal::Decimal;
+use super::mantissa::Exponent;
 use super::state::{MOST_BITS, State};
 use reader::class::{ByteClass, Class, pass};
 use reader::source::Source;
@@ -45,10 +46,10 @@ fn finish(state: State) -> Reading
     match state {
         State::Whole(m) => match m.integer() {
             Some(n) => Reading::Integer(n),
-            None => real(m.real(None, Capped::new(0))),
+            None => real(m.real(&Exponent::new(None, 0))),
         },
-        State::Fraction(m) => real(m.real(None, Capped::new(0))),
-        State::Power(m, sign, n) => real(m.real(sign, n)),
+        State::Fraction(m) => real(m.real(&Exponent::new(None, 0))),
+        State::Power(m, x) => real(m.real(&x)),
         State::Bits(_, bits) => radix(bits),
         _ => Reading::Name,
     }

@@ -1,4 +1,4 @@
-ghost use Rattle.std.specs.Prelude.{◌≡◌, ◌+◌, ◌^◌, ◌<◌, ◌≤◌, true, false, pos, ◌-ℤ◌, MatchOption};
+ghost use Rattle.std.specs.Prelude.{◌≡◌, ◌+◌, ◌*◌, ◌^◌, min, ◌<◌, ◌≤◌, true, false, pos, ◌-ℤ◌, MatchOption};
 ghost use Rattle.definitions.specs.Numbers.{signed, settled, Decimal as Limits};
 ghost use Rattle.definitions.specs.Readings.{fits_test};
 ghost use Rattle.number.specs.Machine.{minus, base, whole_of, longer_of, placed_of};
@@ -30,6 +30,13 @@ pub struct Mantissa {
     pub places: u32,
 }
 
+// What stands after an e.
+#[derive(Clone, Copy)]
+pub struct Exponent {
+    pub sign: Option<Sign>,
+    pub n: Capped<MOST_POWER>,
+}
+
 fn is_minus(sign: Option<Sign>) -> bool
     ensures { result ≡ minus sign }
 {
@@ -45,6 +52,27 @@ fn signed(sign: Option<Sign>, n: u64) -> i64
         -(n as i64)
     } else {
         n as i64
+    }
+}
+
+impl Exponent {
+    pub fn new(sign: Option<Sign>, digit: u8) -> Exponent
+        ensures { result ≡ record { sign = sign; n = digit } }
+    {
+        Exponent {
+            sign,
+            n: Capped::new(digit),
+        }
+    }
+
+    // One digit more.
+    pub fn with_digit(&self, digit: u8) -> Exponent
+        ensures { result ≡ record { sign = self.now.sign; n = min (self.now.n * 10 + digit) (10 ^ 10) } }
+    {
+        Exponent {
+            n: self.n.with_digit(10, digit),
+            ..*self
+        }
     }
 }
 
@@ -94,18 +122,22 @@ impl Mantissa {
         i32::try_from(signed(self.sign, self.c.get())).ok()
     }
 
-    // The real with this exponent, if it is within its limits: k is the exponent less the count of
-    // digits after the dot, and 0 where c is.
-    pub fn real(&self, sign: Option<Sign>, n: Capped<MOST_POWER>) -> Option<Decimal>
-        ensures { let k = settled self.now.c (signed (minus sign) n -ℤ pos self.now.places) in MatchOption result (Limits self.now.c k → ⊥) (λ d. (d.negative ≡ minus self.now.sign) × (d.c ≡ self.now.c) × (d.k ≡ k)) }
+    // k: the exponent less the count of digits after the dot, and 0 where c is.
+    fn scale(&self, exponent: &Exponent) -> i64
+        ensures { result ≡ settled self.now.c (signed (minus exponent.now.sign) exponent.now.n -ℤ pos self.now.places) }
     {
-        let c = self.c.get();
-        let exponent = signed(sign, n.get());
-        let k = if c == 0 {
+        if self.c.get() == 0 {
             0
         } else {
-            exponent - i64::from(self.places)
-        };
-        Decimal::new(is_minus(self.sign), c, i8::try_from(k).ok()?)
+            signed(exponent.sign, exponent.n.get()) - i64::from(self.places)
+        }
+    }
+
+    // The real with this exponent, if it is within its limits.
+    pub fn real(&self, exponent: &Exponent) -> Option<Decimal>
+        ensures { let k = settled self.now.c (signed (minus exponent.now.sign) exponent.now.n -ℤ pos self.now.places) in MatchOption result (Limits self.now.c k → ⊥) (λ d. (d.negative ≡ minus self.now.sign) × (d.c ≡ self.now.c) × (d.k ≡ k)) }
+    {
+        let k = i8::try_from(self.scale(exponent)).ok()?;
+        Decimal::new(is_minus(self.sign), self.c.get(), k)
     }
 }

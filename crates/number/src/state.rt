@@ -2,7 +2,7 @@ ghost use Rattle.std.specs.Prelude.{◌≡◌};
 ghost use Rattle.number.specs.Machine.{radix_of, next_of};
 
 use super::capped::Capped;
-use super::mantissa::{MOST_POWER, Mantissa, Sign};
+use super::mantissa::{Exponent, Mantissa, Sign};
 use reader::class::digit_worth;
 
 // No radix number from 2^32 on is told apart from another.
@@ -23,7 +23,7 @@ pub enum State {
     Exponent(Mantissa),
     ExponentSign(Mantissa, Sign),
     // one or more digits of the exponent
-    Power(Mantissa, Option<Sign>, Capped<MOST_POWER>),
+    Power(Mantissa, Exponent),
     // a base and #
     Radix(u8),
     // one or more digits after them
@@ -66,17 +66,12 @@ impl State {
             (State::Fraction(m), b'e' | b'E') => State::Exponent(*m),
             (State::Exponent(m), b'+') => State::ExponentSign(*m, Sign::Plus),
             (State::Exponent(m), b'-') => State::ExponentSign(*m, Sign::Minus),
-            (State::Exponent(m), b'0'..=b'9') => State::Power(*m, None, Capped::new(b - b'0')),
+            (State::Exponent(m), b'0'..=b'9') => State::Power(*m, Exponent::new(None, b - b'0')),
             (State::ExponentSign(m, s), b'0'..=b'9') => State::Power(
                 *m,
-                Some(*s),
-                Capped::new(b - b'0'),
+                Exponent::new(Some(*s), b - b'0'),
             ),
-            (State::Power(m, s, n), b'0'..=b'9') => State::Power(
-                *m,
-                *s,
-                n.with_digit(10, b - b'0'),
-            ),
+            (State::Power(m, x), b'0'..=b'9') => State::Power(*m, x.with_digit(b - b'0')),
             (State::Radix(base), _) => radix_digit(*base, Capped::new(0), b),
             (State::Bits(base, n), _) => radix_digit(*base, *n, b),
             _ => State::Dead,

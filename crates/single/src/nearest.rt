@@ -19,7 +19,6 @@ fn with_sign(negative: bool, bits: u32) -> u32
 pub fn nearest(real: &Decimal) -> Option<f32>
     ensures { MatchOption result (Near real.now.c real.now.k → ⊥) (λ x. Near real.now.c real.now.k × ((bits : ℕ) × Nearest real.now.c real.now.k bits × (x ≡ from_bits binary32 (sign_bit real.now.negative + bits)))) }
 {
-    let worth = worth(real)?;
-    let bits = nearest_bits(worth.num, worth.den);
+    let bits = nearest_bits(&worth(real)?);
     Some(f32::from_bits(with_sign(real.is_negative(), bits)))
 }

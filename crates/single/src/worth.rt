@@ -9,6 +9,7 @@ use number::decimal::Decimal;
 pub(crate) struct Fraction {
     pub num: u64,
     pub den: u64,
+    ghost positive: { 0 < den },
 }
 
 // A near real stays below this at each factor of ten.
@@ -18,7 +19,7 @@ const MOST_FACTORS: u32 = 18;
 
 // None where the real is far.
 pub(crate) fn worth(real: &Decimal) -> Option<Fraction>
-    ensures { MatchOption result (Near real.now.c real.now.k → ⊥) (λ w. Near real.now.c real.now.k × WorthOf real.now.c real.now.k w.num w.den × (0 < w.den)) }
+    ensures { MatchOption result (Near real.now.c real.now.k → ⊥) (λ w. Near real.now.c real.now.k × WorthOf real.now.c real.now.k w.num w.den) }
 {
     let factors = u32::from(real.k().unsigned_abs());
     if factors > MOST_FACTORS {

@@ -4,5 +4,5 @@ use Rattle.single.proofs.rounding.nearest_bits.Goals as goal
 
 pub returns : goal.returns
 returns c =
-    let n = c.normalise-n.result in let d = c.normalise-d.result in let e = c.normalise-n.ensures in let f = c.normalise-d.ensures in
-    shifted_nearest c.args.num c.args.den n.value d.value n.shift d.shift c.more_bits-more.result c.requires e.0 f.0 e.1 (omega arith) f.1 (omega arith) e.2 f.2 c.more_bits-more.ensures c.exponent.result c.rounded-m.result c.exponent.ensures c.rounded-m.ensures
+    let n = c.new-n.result in let d = c.new-d.result in
+    shifted_nearest c.args.worth.now.num c.args.worth.now.den n.value d.value n.shift d.shift c.more_bits-more.result c.args.worth.now.positive c.new-n.ensures c.new-d.ensures n.highest (omega arith) d.highest (omega arith) n.short d.short c.more_bits-more.ensures c.exponent.result c.rounded-m.result c.exponent.ensures c.rounded-m.ensures
