@@ -8,7 +8,7 @@ ghost use Rattle.definitions.specs.Laws.{OneText, OneLine, LineFits, TurnFits, O
 ghost use Rattle.definitions.specs.Worked.{Worked};
 
 // the theorems of sources: what a class passes, the limit of each layer, and what a move passes
-pub fn sources_stand() -> u8
+pub fn sources_stand()
     ensures class { OneFront }
     ensures there { ThereTests }
     ensures lent { LentInLimit }
@@ -17,12 +17,10 @@ pub fn sources_stand() -> u8
     ensures step { StepPasses }
     ensures pass { ClassPasses }
     ensures stays { PassedInLimit }
-{
-    0
-}
+{}
 
 // the theorems of the grammar, asked for by contracts
-pub fn grammar_stands() -> u8
+pub fn grammar_stands()
     ensures gap { OneGap }
     ensures reading { OneReading }
     ensures outcome { OneEachGap }
@@ -30,12 +28,10 @@ pub fn grammar_stands() -> u8
     ensures reads { ReadingComputed }
     ensures comes { OutcomeComputed }
     ensures two { TwoExactly }
-{
-    0
-}
+{}
 
 // the theorems of literal text and its decoder
-pub fn text_stands() -> u8
+pub fn text_stands()
     ensures some { DecodesOrEnds }
     ensures apart { NeverBoth }
     ensures text { TextDecodes }
@@ -43,12 +39,10 @@ pub fn text_stands() -> u8
     ensures decodes { DecodingComputed }
     ensures source { OneDecodedSource }
     ensures object { OneDecodedObject }
-{
-    0
-}
+{}
 
 // the theorems of the plain reader and of a shared scanner
-pub fn reader_stands() -> u8
+pub fn reader_stands()
     ensures nearest { OneNearest }
     ensures integer { OneInteger }
     ensures accepts { AcceptsComputed }
@@ -64,25 +58,19 @@ pub fn reader_stands() -> u8
     ensures run { OneRun }
     ensures stays { RunInLimit }
     ensures shared { RunIsShared }
-{
-    0
-}
+{}
 
 // the theorems of a listing
-pub fn listing_stands() -> u8
+pub fn listing_stands()
     ensures text { OneText }
     ensures line { OneLine }
     ensures fits { LineFits }
     ensures turns { TurnFits }
     ensures writes { OneWriting }
     ensures listing { OneListing }
-{
-    0
-}
+{}
 
 // the worked cases
-pub fn cases_stand() -> u8
+pub fn cases_stand()
     ensures cases { Worked }
-{
-    0
-}
+{}
