@@ -26,16 +26,14 @@ fn skip_angle<S: Source>(source: &mut S) -> Result<(), Open>
 }
 
 // After the [ of an array: passes its items and the ] that closes it.
-#[tactic(auto, using(crate::proofs::GapSteps::comment_shortens))]
+#[tactic(auto, using(crate::proofs::GapSteps::comment_shortens, crate::proofs::GapSteps::comment_moves, crate::proofs::SkipSteps::comment_skips))]
 pub fn skip_array<S: Source>(source: &mut S) -> Result<(), Open>
     ensures skips { Skipped (λ d. items (suc d)) 1 result (S.Source.meaning source.old) (S.Source.meaning source.new) }
     ensures lies { S.Source.lies source.new ≡ S.Source.lies source.old }
 {
     let mut depth: u32 = 0;
     'array: loop {
-        let Some(b) = source.peek() else {
-            break 'array;
-        };
+        let b = source.peek().ok_or(Open::RanOut)?;
         match b {
             b'%' => pass(source, &Class::InComment),
             b'[' => {
@@ -45,7 +43,7 @@ pub fn skip_array<S: Source>(source: &mut S) -> Result<(), Open>
             b']' => {
                 source.step();
                 if depth == 0 {
-                    return Ok(());
+                    break 'array;
                 }
                 depth -= 1;
             }
@@ -60,5 +58,5 @@ pub fn skip_array<S: Source>(source: &mut S) -> Result<(), Open>
             _ => source.step(),
         }
     }
-    Err(Open::RanOut)
+    Ok(())
 }

@@ -26,28 +26,26 @@ pub fn skip_literal<S: Source>(source: &mut S) -> Result<(), Open>
 }
 
 // After the < of a hex string: passes its digits, unchecked, and the > that closes it.
+#[tactic(auto, using(crate::proofs::SkipSteps::hex_out, crate::proofs::SkipSteps::hex_closed))]
 pub fn skip_hex<S: Source>(source: &mut S) -> Result<(), Open>
     ensures skips { Skipped hex 1 result (S.Source.meaning source.old) (S.Source.meaning source.new) }
     ensures lies { S.Source.lies source.new ≡ S.Source.lies source.old }
 {
     pass(source, &Except { byte: b'>' });
-    if source.peek().is_none() {
-        return Err(Open::RanOut);
-    }
+    source.peek().ok_or(Open::RanOut)?;
     source.step();
     Ok(())
 }
 
 // After the <~ of an ASCII85 string: passes its digits, unchecked, and the ~> that closes it.
+#[tactic(auto, using(crate::proofs::SkipSteps::ascii85_out, crate::proofs::SkipSteps::ascii85_lacks, crate::proofs::SkipSteps::ascii85_closed))]
 pub fn skip_ascii85<S: Source>(source: &mut S) -> Result<(), Open>
     ensures skips { Skipped ascii85 2 result (S.Source.meaning source.old) (S.Source.meaning source.new) }
     ensures lies { S.Source.lies source.new ≡ S.Source.lies source.old }
 {
     pass(source, &Except { byte: b'~' });
     source.step();
-    let Some(b) = source.peek() else {
-        return Err(Open::RanOut);
-    };
+    let b = source.peek().ok_or(Open::RanOut)?;
     if b != b'>' {
         return Err(Open::LacksClose);
     }
