@@ -1,3 +1,2 @@
 pub mod Octals
 pub mod Settled
-pub mod Written

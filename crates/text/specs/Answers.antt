@@ -1,7 +1,7 @@
 -- What the decoder's functions answer, as the definitions have it. Assumes nothing.
-use Rattle.std.specs.Prelude.{◌≡◌, ℕ, ◌<◌, ◌≤◌, true, false, List, ◌∷◌, ◌++◌, length, drop, Some, None, Ok, Err, Option, Result}
+use Rattle.std.specs.Prelude.{◌≡◌, ℕ, ◌<◌, ◌≤◌, true, false, List, ◌∷◌, length, Some, None, Ok, Err, Option, Result}
 use Rattle.definitions.specs.Decoder.{Told, decoded, turned_down}
-use Rattle.definitions.specs.LiteralText.{paired, decode}
+use Rattle.definitions.specs.LiteralText.{paired}
 use Rattle.definitions.specs.Sources.{Meaning, clean, fault}
 use Rattle.text.specs.declared.undecoded.Undecoded.{Undecoded}
 use Rattle.text.specs.declared.undecoded.Undecoded.TheVariants.{Fault, LoneBackslash, ShortBuffer}
@@ -19,11 +19,6 @@ Decodable m room (Ok u) = (m.ending ≡ clean) × (paired m.to_come ≡ true) ×
 Decodable m room (Err (Fault f)) = m.ending ≡ fault f.layer f.cause
 Decodable m room (Err LoneBackslash) = (m.ending ≡ clean) × (paired m.to_come ≡ false)
 Decodable m room (Err ShortBuffer) = (m.ending ≡ clean) × (paired m.to_come ≡ true) × (room < length m.to_come)
-
--- the decoder's answer and the buffer after, by what is computed: decoded, with the bytes past the text as they were, or refused, with all bytes as they were
-abbrev pub Decoded : List ℕ → Meaning → Result ℕ Undecoded → List ℕ → Type 0
-Decoded buffer m (Ok count) after = Decodable m (length buffer) (Ok tt) × (count ≡ length (decode m.to_come)) × (after ≡ decode m.to_come ++ drop count buffer)
-Decoded buffer m (Err why) after = Decodable m (length buffer) (Err why) × (after ≡ buffer)
 
 -- the byte that a piece of text gives, if any, before more
 abbrev pub onto : Option ℕ → List ℕ → List ℕ

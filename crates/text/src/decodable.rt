@@ -9,15 +9,14 @@ pub(crate) fn check<S: Source>(source: S, room: usize) -> Result<(), Undecoded>
     ensures { Decodable (S.Source.meaning source) room result }
 {
     let mut left = source;
-    let mut count: usize = 0;
     let mut escaping = false;
     while let Some(b) = left.peek() {
         left.step();
-        count += 1;
         escaping = !escaping && b == b'\\';
     }
-    if let Some(Err(fault)) = left.ending() {
-        return Err(Undecoded::Fault(fault));
+    let count = (left.place() - source.place()) as usize;
+    if let Some(ending) = left.ending() {
+        ending?;
     }
     if escaping {
         return Err(Undecoded::LoneBackslash);

@@ -1,7 +1,8 @@
-ghost use Rattle.std.specs.Prelude.{◌≡◌, ◌+◌, ◌<◌, ◌≤◌, ◌∷◌, ◌++◌, length, drop, IfOk, slice_set};
+ghost use Rattle.std.specs.Prelude.{◌≡◌, ◌≤◌, ◌∷◌, ◌++◌, length, drop, IfOk};
+ghost use Rattle.std.specs.Iterator.{YieldsFirst, item_count};
 ghost use Rattle.definitions.specs.Decoder.{DecodesSource};
 ghost use Rattle.definitions.specs.LiteralText.{decode as decoded_text};
-ghost use Rattle.text.specs.Answers.{onto, told, Decoded};
+ghost use Rattle.text.specs.Answers.{onto, told};
 
 use super::decodable::check;
 use super::escape::escape;
@@ -25,48 +26,54 @@ fn piece<S: Source>(b: u8, source: &mut S) -> Option<u8>
     }
 }
 
-// Writes a byte at a place; the place after it.
-fn put(buffer: &mut [u8], at: usize, byte: u8) -> usize
-    requires { at < length buffer.old }
-    ensures bytes { buffer.new ≡ slice_set buffer.old at byte }
-    ensures end { result ≡ at + 1 }
-{
-    buffer[at] = byte;
-    at + 1
+// The bytes that the text still to come decodes to.
+#[derive(Drop)]
+struct DecodedBytes<S> {
+    left: S,
 }
 
-// Writes the decoded text to the front of a buffer that has room for the undecoded one, and answers
-// its length. No piece gives more than one byte, so the room is enough.
+impl<S: Source> Iterator for DecodedBytes<S> {
+    type Item = u8;
+
+    ghost next_gives = { YieldsFirst (λ d. decoded_text (S.Source.meaning d.left).to_come) };
+
+    ghost remaining = { item_count (λ d. decoded_text (S.Source.meaning d.left).to_come) };
+
+    fn next(&mut self) -> Option<u8> {
+        while let Some(b) = self.left.peek() {
+            self.left.step();
+            if let Some(byte) = piece(b, &mut self.left) {
+                return Some(byte);
+            }
+        }
+        None
+    }
+}
+
+// Writes the decoded text to the front of a buffer that has room for it, and answers its length.
 fn write<S: Source>(source: S, buffer: &mut [u8]) -> usize
-    requires { length (S.Source.meaning source).to_come ≤ length buffer.old }
+    requires { length (decoded_text (S.Source.meaning source).to_come) ≤ length buffer.old }
     ensures count { result ≡ length (decoded_text (S.Source.meaning source).to_come) }
     ensures bytes { buffer.new ≡ decoded_text (S.Source.meaning source).to_come ++ drop result buffer.old }
 {
-    let mut left = source;
-    let mut at = 0;
-    while let Some(b) = left.peek() {
-        left.step();
-        if let Some(byte) = piece(b, &mut left) {
-            at = put(buffer, at, byte);
-        }
+    let mut text = DecodedBytes { left: source };
+    for (at, slot) in buffer.iter_mut().enumerate() {
+        let Some(byte) = text.next() else {
+            return at;
+        };
+        *slot = byte;
     }
-    at
-}
-
-// The same for any buffer: first all is tested, then all is written.
-fn decode_copy<S: Source>(source: S, buffer: &mut [u8]) -> Result<usize, Undecoded>
-    ensures { Decoded buffer.old (S.Source.meaning source) result buffer.new }
-{
-    check(source, buffer.len())?;
-    Ok(write(source, buffer))
+    buffer.len()
 }
 
 // Decodes all bytes to come of a source, as literal text, to the front of a buffer, and answers how
 // many bytes that gives; the bytes past them stay. It works on a copy, so the source does not move.
 // A refusal leaves the whole buffer as it was.
+#[tactic(auto, using(crate::proofs::Settled::has_room, crate::proofs::Settled::turned_down_so, crate::proofs::Settled::wrote))]
 pub fn decode<S: Source>(source: &S, buffer: &mut [u8]) -> Result<usize, Undecoded>
     ensures text { DecodesSource buffer.old (S.Source.meaning source.now) (told (S.Source.meaning source.now).place result) buffer.new }
     ensures room { IfOk result (λ n. n ≤ length buffer.new) }
 {
-    decode_copy(*source, buffer)
+    check(*source, buffer.len())?;
+    Ok(write(*source, buffer))
 }

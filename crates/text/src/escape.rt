@@ -23,22 +23,21 @@ fn escaped_byte(b: u8) -> u8
 
 // After a backslash and an octal digit: takes up to two more. Three can be worth more than a byte
 // holds, so their value counts modulo 256.
+#[tactic(auto, using(crate::proofs::Octals::octal_more_is, crate::proofs::Octals::octal_last))]
 fn octal_byte<S: Source>(digit: u8, source: &mut S) -> u8
     requires { octal digit ≡ true }
     ensures means { decode_octal digit (S.Source.meaning source.old).to_come ≡ result ∷ decode (S.Source.meaning source.new).to_come }
     ensures passes { length (S.Source.meaning source.new).to_come ≤ length (S.Source.meaning source.old).to_come }
 {
-    let mut value = (digit - b'0') as u16;
-    let mut digits: u8 = 1;
-    while let Some(b) = source.peek() {
-        if digits == 3 || !Class::Octal.contains(b) {
+    let mut value = digit - b'0';
+    for _ in 0..2u8 {
+        let Some(b) = source.peek().filter(|b| Class::Octal.contains(*b)) else {
             break;
-        }
+        };
         source.step();
-        value = value * 8 + (b - b'0') as u16;
-        digits += 1;
+        value = value.wrapping_mul(8).wrapping_add(b - b'0');
     }
-    (value % 256) as u8
+    value
 }
 
 // After a backslash: takes what it escapes, and answers the byte that it stands for. A newline
@@ -47,9 +46,7 @@ pub(crate) fn escape<S: Source>(source: &mut S) -> Option<u8>
     ensures means { decode_escape (S.Source.meaning source.old).to_come ≡ onto result (decode (S.Source.meaning source.new).to_come) }
     ensures passes { length (S.Source.meaning source.new).to_come ≤ length (S.Source.meaning source.old).to_come }
 {
-    let Some(b) = source.peek() else {
-        return None;
-    };
+    let b = source.peek()?;
     source.step();
     match b {
         b'\r' => {

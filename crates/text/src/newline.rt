@@ -8,10 +8,7 @@ pub(crate) fn pass_feed<S: Source>(source: &mut S)
     ensures means { past_feed (S.Source.meaning source.old).to_come ≡ decode (S.Source.meaning source.new).to_come }
     ensures passes { length (S.Source.meaning source.new).to_come ≤ length (S.Source.meaning source.old).to_come }
 {
-    let Some(b) = source.peek() else {
-        return;
-    };
-    if b == b'\n' {
+    if source.peek() == Some(b'\n') {
         source.step();
     }
 }
