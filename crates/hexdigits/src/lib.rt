@@ -2,28 +2,27 @@
 #![tactic(auto)]
 
 ghost use Rattle.std.specs.Prelude.{◌≡◌, IfOk, string_bytes};
-ghost use Rattle.hexdigits.specs.Digits.{bytes_of, digits_of};
+ghost use Rattle.hexdigits.specs.Digits.{bits_of, bytes_of, digits_of};
 
 use reader::class::digit_worth;
 use std::alloc::{AllocError, Global};
+
+// The four bits that a digit stands for; of a byte that is no digit, some four bits.
+fn bits(digit: u8) -> u8
+    ensures { result ≡ bits_of digit }
+{
+    digit_worth(digit) & 15
+}
 
 // The bytes of hexadecimal digits.
 pub fn unhex(heap: Global, digits: &[u8]) -> Result<Vec<u8>, AllocError>
     ensures { IfOk result (λ v. v.items ≡ bytes_of digits.now) }
 {
-    let mut bytes = Vec::new(heap);
-    let mut high = None;
-    for d in digits {
-        let worth = digit_worth(*d) & 15;
-        match high {
-            None => high = Some(worth),
-            Some(h) => {
-                bytes.push((h & 15) * 16 + worth)?;
-                high = None;
-            }
-        }
-    }
-    Ok(bytes)
+    let (pairs, _) = digits.as_chunks::<2>();
+    pairs
+        .iter()
+        .map(|[high, low]| bits(*high) * 16 + bits(*low))
+        .collect(heap)
 }
 
 // The hexadecimal digits of bytes.
@@ -32,7 +31,7 @@ pub fn hex(heap: Global, bytes: &[u8]) -> Result<String, AllocError>
 {
     let mut digits = String::new(heap);
     for b in bytes {
-        digits.push_str(format!(in heap; "{b:02x}")?.as_str())?;
+        write!(digits, "{b:02x}")?;
     }
     Ok(digits)
 }

@@ -1,4 +1,4 @@
-use Rattle.std.proofs.Common.{◌<◌, false, get_or, ◌∙◌, rules}
+use Rattle.std.proofs.Common.{◌<◌, false, get_or, rules}
 use Rattle.std.proofs.lemmas.Fmt.{hex_byte}
 use Rattle.hexdigits.proofs.Pairs.{byte_goes_on}
 use Rattle.hexdigits.proofs.hex.Goals as goal
@@ -7,6 +7,4 @@ pub loop-b-preserved : goal.loop-b-preserved
 loop-b-preserved c =
     let b = get_or c.args.bytes.now c.loop-b.b-index 0 in
     let small : b < 256 = search rules in
-    let f = rw (c.laid_out.ensures, c.in_radix.ensures) at c.in_ok-format.ensures.ok in
-    let two = c.as_str.ensures.value ∙ f ∙ hex_byte false b small in
-    byte_goes_on _ _ _ _ _ c.loop-b-test.true c.loop-b.invariant two c.in_ok-push_str.ensures.bytes
+    byte_goes_on _ _ _ _ c.loop-b-test.true c.loop-b.invariant (rw (c.laid_out.ensures, c.in_radix.ensures, hex_byte false b small) at c.in_ok-write.ensures.bytes)
