@@ -1,15 +1,16 @@
 -- A call and its turn as the code holds them, and as the plain reader has them. Assumes nothing.
-use Rattle.std.specs.Prelude.{List, [], ◌∷◌, ◌++◌, ℕ, ◌-◌, take, drop}
+use Rattle.std.specs.Prelude.{List, [], ◌∷◌, ◌++◌, ℕ, ◌-◌, take, drop, Some, None, Option, Ok, Err, Result}
 use Rattle.definitions.specs.PlainReader as reader
 use Rattle.definitions.specs.Sources.{Meaning}
 use Rattle.objects.specs.Answers.{as_refusal, numbered}
 use Rattle.objects.specs.Objects.{as_handed}
+use Rattle.objects.specs.declared.error.Refusal.{Refusal}
 use Rattle.calls.specs.declared.call.Call.{Call}
 use Rattle.calls.specs.declared.call.Call.TheVariants.{ParseObject, ParseNumber, ParseName, ParseString, ParseArray, AtEnd}
 use Rattle.calls.specs.declared.turn.Answer.{Answer}
 use Rattle.calls.specs.declared.turn.Answer.TheVariants as answer
 use Rattle.calls.specs.declared.turn.Piece.{Piece}
-use Rattle.calls.specs.declared.turn.Piece.TheVariants.{Nothing, Taken, Refused}
+use Rattle.calls.specs.declared.turn.Piece.TheVariants.{Taken, Refused}
 use Rattle.calls.specs.declared.turn.Turn.{Turn}
 
 -- the call that is asked for
@@ -22,21 +23,21 @@ asked ParseArray = reader.parses reader.parse_array
 asked AtEnd = reader.at_end
 
 -- what it answers
-abbrev pub given : {I : Type 0} → (I → Meaning) → Answer I → reader.Answer
-given meaning (answer.Object x) = reader.object (as_handed meaning x)
-given meaning (answer.Number n) = numbered n
-given meaning (answer.Refused r) = as_refusal r
-given meaning (answer.AtEnd b) = reader.yes_no b
+abbrev pub given : {I : Type 0} → (I → Meaning) → Result (Answer I) Refusal → reader.Answer
+given meaning (Ok (answer.Object x)) = reader.object (as_handed meaning x)
+given meaning (Ok (answer.Number n)) = numbered n
+given meaning (Ok (answer.AtEnd b)) = reader.yes_no b
+given meaning (Err r) = as_refusal r
 
 -- the bytes of a source from one place to another
 abbrev pub between : Meaning → ℕ → ℕ → List ℕ
 between s from to = take (to - from) (drop (from - s.place) s.to_come)
 
 -- what stands after the gap
-abbrev pub after_it : Piece → List ℕ → List reader.Piece
-after_it Nothing bs = []
-after_it Taken bs = reader.taken bs ∷ []
-after_it Refused bs = reader.refused bs ∷ []
+abbrev pub after_it : Option Piece → List ℕ → List reader.Piece
+after_it None bs = []
+after_it (Some Taken) bs = reader.taken bs ∷ []
+after_it (Some Refused) bs = reader.refused bs ∷ []
 
 -- the pieces of a turn, cut from the source as it was when the scanner was new
 abbrev pub pieces : {I : Type 0} → Meaning → Turn I → List reader.Piece
