@@ -7,8 +7,9 @@ mod singles;
 mod texts;
 
 use std::alloc::{AllocError, Global};
-use std::io;
 use std::io::{BufRead, BufReader};
+use std::str::FromStr;
+use std::{fmt, io};
 
 // What the cases of a section are.
 #[derive(Clone, Copy)]
@@ -17,57 +18,70 @@ enum Section {
     Singles,
     Texts,
     ShortTexts,
-    // cases before the first section, or of one that is not known
-    Other,
+}
+
+// A section's name that is not known.
+#[derive(Clone, Copy)]
+struct Unknown;
+
+impl FromStr for Section {
+    type Err = Unknown;
+
+    fn from_str(name: &str) -> Result<Section, Unknown> {
+        match name {
+            "numbers" => Ok(Section::Numbers),
+            "singles" => Ok(Section::Singles),
+            "texts" => Ok(Section::Texts),
+            "short texts" => Ok(Section::ShortTexts),
+            _ => Err(Unknown),
+        }
+    }
+}
+
+impl fmt::Display for Section {
+    fn fmt<W: fmt::Write>(&self, f: &mut fmt::Formatter<W>) -> fmt::Result {
+        match self {
+            Section::Numbers => write!(f, "numbers"),
+            Section::Singles => write!(f, "singles"),
+            Section::Texts => write!(f, "texts"),
+            Section::ShortTexts => write!(f, "short texts"),
+        }
+    }
 }
 
 impl Section {
-    fn named(name: &str) -> Section {
-        if name == "numbers" {
-            Section::Numbers
-        } else if name == "singles" {
-            Section::Singles
-        } else if name == "texts" {
-            Section::Texts
-        } else if name == "short texts" {
-            Section::ShortTexts
-        } else {
-            Section::Other
-        }
-    }
-
-    fn name(self) -> &'static str {
-        match self {
-            Section::Numbers => "numbers",
-            Section::Singles => "singles",
-            Section::Texts => "texts",
-            Section::ShortTexts => "short texts",
-            Section::Other => "other",
-        }
-    }
-
     // What a case of this section comes to, in the table's words.
     fn answer(self, heap: Global, given: &str) -> Result<String, AllocError> {
         match self {
             Section::Numbers => numbers::answer(heap, given),
             Section::Singles => singles::answer(heap, given),
-            Section::Texts => texts::answer(heap, given),
-            Section::ShortTexts => texts::answer_short(heap, given),
-            Section::Other => String::from_str(heap, "unknown"),
+            Section::Texts => texts::answer(heap, given, 0),
+            Section::ShortTexts => texts::answer(heap, given, 1),
         }
     }
 }
 
-// What the cases of a section came to.
+// What the cases of a section came to; with no section, those before the first or of one that is
+// not known.
 #[derive(Clone, Copy)]
 struct Tally {
-    section: Section,
+    section: Option<Section>,
     right: u64,
     wrong: u64,
 }
 
+impl fmt::Display for Tally {
+    fn fmt<W: fmt::Write>(&self, f: &mut fmt::Formatter<W>) -> fmt::Result {
+        match self.section {
+            Some(section) => write!(f, "{section}")?,
+            None => write!(f, "other")?,
+        }
+        write!(f, ": {} right, {} wrong", self.right, self.wrong)
+    }
+}
+
 impl Tally {
-    fn new(section: Section) -> Tally {
+    fn new(section: Option<Section>) -> Tally {
         Tally {
             section,
             right: 0,
@@ -78,7 +92,10 @@ impl Tally {
     // Checks the case of a line.
     fn check(&mut self, rt: &HostRuntime, number: u64, line: &str) -> io::Result<()> {
         let (given, expected) = line.split_once('\t').unwrap_or((line, ""));
-        let got = self.section.answer(rt.alloc(), given)?;
+        let got = match self.section {
+            Some(section) => section.answer(rt.alloc(), given)?,
+            None => String::from_str(rt.alloc(), "unknown")?,
+        };
         if got.as_str() == expected {
             self.right = self.right.saturating_add(1);
             Ok(())
@@ -93,22 +110,18 @@ impl Tally {
         if self.right == 0 && self.wrong == 0 {
             return Ok(());
         }
-        let name = self.section.name();
-        let right = self.right;
-        let wrong = self.wrong;
-        println!(rt; "{name}: {right} right, {wrong} wrong")
+        println!(rt; "{self}")
     }
 }
 
 fn main(rt: HostRuntime) -> io::Result<()> {
-    let mut tally = Tally::new(Section::Other);
-    let mut number: u64 = 0;
-    for line in BufReader::new(rt.alloc(), rt.stdin())?.lines(rt.alloc()) {
+    let mut tally = Tally::new(None);
+    let lines = BufReader::new(rt.alloc(), rt.stdin())?.lines(rt.alloc());
+    for (number, line) in (1..=u64::MAX).zip(lines) {
         let line = line?;
-        number = number.saturating_add(1);
         if let Some(name) = line.as_str().strip_prefix("# ") {
             tally.report(&rt)?;
-            tally = Tally::new(Section::named(name));
+            tally = Tally::new(name.parse().ok());
         } else {
             tally.check(&rt, number, line.as_str())?;
         }

@@ -1,3 +1,4 @@
+use objects::error::Reason;
 use postscript::scanner::Scanner;
 use reader::lent::Lent;
 use single::value::{Number, to_bits};
@@ -12,9 +13,9 @@ pub(crate) fn answer(heap: Global, run: &str) -> Result<String, AllocError> {
             format!(in heap; "{bits:08X}")
         }
         Ok(Number::Integer(n)) => format!(in heap; "integer {n}"),
-        Err(refusal) => match refusal.number() {
-            5 => String::from_str(heap, "far"),
-            n => format!(in heap; "refused {n}"),
+        Err(refusal) => match refusal.reason {
+            Reason::PastLimits => String::from_str(heap, "far"),
+            reason => format!(in heap; "refused {}", reason.number()),
         },
     }
 }
