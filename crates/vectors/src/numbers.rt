@@ -1,4 +1,4 @@
-ghost use Rattle.std.specs.Prelude.{◌≡◌, IfOk, string_bytes};
+ghost use Rattle.std.specs.Prelude.{◌≡◌, Some, IfOk, string_bytes};
 ghost use Rattle.number.specs.Runs.{as_reading};
 ghost use Rattle.vectors.specs.Words.{minus, words, number_words};
 
@@ -6,6 +6,7 @@ use number::decimal::Decimal;
 use number::machine::{Reading, read};
 use reader::lent::Lent;
 use std::alloc::{AllocError, Global};
+use std::fmt;
 
 fn sign(d: Decimal) -> &'static str
     ensures { result.now ≡ minus d.negative }
@@ -14,19 +15,19 @@ fn sign(d: Decimal) -> &'static str
 }
 
 // A reading as the table writes it: `integer 5`, `real -5e-1`, `limits` or `name`.
-fn show(heap: Global, reading: Reading) -> Result<String, AllocError>
-    ensures { IfOk result (λ s. string_bytes s ≡ words (as_reading reading)) }
-{
-    match reading {
-        Reading::Integer(n) => format!(in heap; "integer {n}"),
-        Reading::Real(d) => {
-            let sign = sign(d);
-            let c = d.c();
-            let k = d.k();
-            format!(in heap; "real {sign}{c}e{k}")
+#[derive(Clone, Copy)]
+struct Words(Reading);
+
+impl fmt::Display for Words {
+    ghost output = { λ w. Some (words (as_reading w.0)) };
+
+    fn fmt<W: fmt::Write>(&self, f: &mut fmt::Formatter<W>) -> fmt::Result {
+        match self.0 {
+            Reading::Integer(n) => write!(f, "integer {n}"),
+            Reading::Real(d) => write!(f, "real {}{}e{}", sign(d), d.c(), d.k()),
+            Reading::PastLimits => write!(f, "limits"),
+            Reading::Name => write!(f, "name"),
         }
-        Reading::PastLimits => String::from_str(heap, "limits"),
-        Reading::Name => String::from_str(heap, "name"),
     }
 }
 
@@ -35,6 +36,5 @@ pub fn answer(heap: Global, run: &str) -> Result<String, AllocError>
     ensures { IfOk result (λ s. string_bytes s ≡ number_words run.now) }
 {
     let mut source = Lent::new(run.as_bytes());
-    let reading = read(&mut source);
-    show(heap, reading)
+    Words(read(&mut source)).to_string(heap)
 }
