@@ -15,6 +15,7 @@ fn bits(digit: u8) -> u8
 }
 
 // The bytes of hexadecimal digits.
+#[tactic(auto, using(crate::proofs::Pairs::pairs_are))]
 pub fn unhex(heap: Global, digits: &[u8]) -> Result<Vec<u8>, AllocError>
     ensures { IfOk result (λ v. v.items ≡ bytes_of digits.now) }
 {
@@ -26,6 +27,7 @@ pub fn unhex(heap: Global, digits: &[u8]) -> Result<Vec<u8>, AllocError>
 }
 
 // The hexadecimal digits of bytes.
+#[tactic(auto, using(std::proofs::lemmas::Fmt::hex_byte, crate::proofs::Pairs::byte_goes_on))]
 pub fn hex(heap: Global, bytes: &[u8]) -> Result<String, AllocError>
     ensures { IfOk result (λ s. string_bytes s ≡ digits_of bytes.now) }
 {

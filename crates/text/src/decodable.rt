@@ -15,8 +15,8 @@ pub(crate) fn check<S: Source>(source: S, room: usize) -> Result<(), Undecoded>
         escaping = !escaping && b == b'\\';
     }
     let count = (left.place() - source.place()) as usize;
-    if let Some(Err(fault)) = left.ending() {
-        return Err(Undecoded::Fault(fault));
+    if let Some(ending) = left.ending() {
+        ending?;
     }
     if escaping {
         return Err(Undecoded::LoneBackslash);

@@ -1,3 +1,6 @@
+ghost use Rattle.std.specs.Prelude.{◌≡◌};
+ghost use Rattle.text.specs.declared.undecoded.Undecoded.TheVariants.{Fault as AtFault};
+
 use reader::source::Fault;
 
 // Why literal text is not decoded. Where is not said: its caller knows where the text stands.
@@ -9,4 +12,12 @@ pub enum Undecoded {
     LoneBackslash,
     // the buffer is shorter than the text
     ShortBuffer,
+}
+
+impl From<Fault> for Undecoded {
+    ghost from_gives = { λ fault why. why ≡ AtFault fault };
+
+    fn from(fault: Fault) -> Undecoded {
+        Undecoded::Fault(fault)
+    }
 }

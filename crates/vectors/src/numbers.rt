@@ -25,6 +25,7 @@ impl fmt::Display for Words {
 }
 
 // What a run is read as.
+#[tactic(auto, using(definitions::proofs::ReadsOnce::reading_is))]
 pub fn answer(heap: Global, run: &str) -> Result<String, AllocError>
     ensures { IfOk result (λ s. string_bytes s ≡ number_words run.now) }
 {

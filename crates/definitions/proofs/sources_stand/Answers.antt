@@ -1,15 +1,15 @@
 use Rattle.definitions.proofs.Bytes.{front_all, past_outside, front_past, one_front}
-use Rattle.definitions.proofs.SourceLaws.{there_is, lent_limit, window_limit, eexec_limit, step_passes, class_passes, passed_limit}
+use Rattle.definitions.proofs.SourceLaws.{there_is, eexec_limit, class_passes}
 use Rattle.definitions.proofs.sources_stand.Goals as goal
 
-pub returns : goal.returns
-returns c = record {
-  class = λ c bs. (front_past c bs, front_all c bs, past_outside c bs, one_front c bs);
-  there = there_is;
-  lent = lent_limit;
-  window = window_limit;
-  eexec = eexec_limit;
-  step = step_passes;
-  pass = class_passes;
-  stays = passed_limit;
-}
+pub returns-clause-class : goal.returns-clause-class
+returns-clause-class c = λ k bs. (front_past k bs, front_all k bs, past_outside k bs, one_front k bs)
+
+pub returns-clause-there : goal.returns-clause-there
+returns-clause-there c = there_is
+
+pub returns-clause-eexec : goal.returns-clause-eexec
+returns-clause-eexec c = eexec_limit
+
+pub returns-clause-pass : goal.returns-clause-pass
+returns-clause-pass c = class_passes
