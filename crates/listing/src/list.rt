@@ -9,7 +9,7 @@ use reader::source::{Source, Windowed};
 
 // What the next line tells of.
 fn next_entry<S: Windowed>(scanner: &mut Scanner<S>) -> Entry<S::Inside>
-    ensures { ComesNext S.Inside.Source.meaning (S.Source.meaning scanner.old.source) (S.Source.meaning scanner.new.source) result }
+    ensures { ComesNext S.Inside.Source.meaning (S.Source.meaning scanner.old) (S.Source.meaning scanner.new) result }
 {
     if scanner.at_end() {
         return Entry::End(scanner.place());
@@ -35,7 +35,7 @@ pub fn list_next<S: Windowed>(
     scanner: &mut Scanner<S>,
     buffer: &mut [u8],
 ) -> Result<Written, Refusal>
-    ensures { ListsNext buffer.old buffer.new (S.Source.meaning scanner.old.source) (S.Source.meaning scanner.new.source) result }
+    ensures { ListsNext buffer.old buffer.new (S.Source.meaning scanner.old) (S.Source.meaning scanner.new) result }
 {
     if buffer.len() < LONGEST {
         return Err(Refusal {

@@ -1,2 +1,4 @@
+pub mod Accepted
 pub mod Decoded
+pub mod Making
 pub mod Numbers

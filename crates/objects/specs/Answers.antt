@@ -2,7 +2,7 @@
 use Rattle.std.specs.Prelude.{◌≡◌, ℕ, Ok, Err, Result, to_bits}
 use Rattle.std.specs.Float.{binary32}
 use Rattle.definitions.specs.Grammar.{Shown}
-use Rattle.definitions.specs.PlainReader.{parse_number, Answer, object, integer_number, real_number, refusal, Judges}
+use Rattle.definitions.specs.PlainReader.{Parser, parse_number, Answer, object, integer_number, real_number, refusal, handed, Judges}
 use Rattle.definitions.specs.Sources.{Meaning}
 use Rattle.single.specs.declared.value.Number.{Number}
 use Rattle.single.specs.declared.value.Number.TheVariants.{Integer, Real}
@@ -21,10 +21,18 @@ use Rattle.objects.specs.declared.string.String.{String}
 abbrev pub as_refusal : Refusal → Answer
 as_refusal r = refusal (number_of r.reason) r.place (fault_of r.reason)
 
--- an answer of parse_object, as the plain reader gives it
+-- an answer, by what is handed over
+abbrev pub told : {T : Type 0} → (T → Answer) → Result T Refusal → Answer
+told hands (Ok t) = hands t
+told hands (Err r) = as_refusal r
+
+-- an object handed over, as the plain reader gives it; a name, a string or an array, as the object that it is
+abbrev pub held : {I T : Type 0} → (I → Meaning) → (T → Object I) → T → Answer
+held meaning case t = object (as_handed meaning (case t))
+
+-- an answer of parse_object
 abbrev pub answered : {I : Type 0} → (I → Meaning) → Result (Object I) Refusal → Answer
-answered meaning (Ok x) = object (as_handed meaning x)
-answered meaning (Err r) = refusal (number_of r.reason) r.place (fault_of r.reason)
+answered meaning r = told (held meaning (λ x. x)) r
 
 -- an answer of parse_number: a float by its bits
 abbrev pub numbered : Number → Answer
@@ -32,13 +40,17 @@ numbered (Integer n) = integer_number n
 numbered (Real x) = real_number (to_bits binary32 x)
 
 abbrev pub number_answered : Result Number Refusal → Answer
-number_answered (Ok n) = numbered n
-number_answered (Err r) = refusal (number_of r.reason) r.place (fault_of r.reason)
+number_answered r = told numbered r
 
 -- what parse_number answers of an object, wherever it stands
 abbrev pub NumberIn : {I : Type 0} → Object I → Result Number Reason → Type 0
 NumberIn x (Ok n) = (o : Shown) (at : ℕ) → o.kind ≡ kind_number (kind_of x) → o.value ≡ value_of x → Judges parse_number at o (numbered n)
 NumberIn x (Err e) = (o : Shown) (at : ℕ) → o.kind ≡ kind_number (kind_of x) → o.value ≡ value_of x → Judges parse_number at o (refusal (number_of e) at (fault_of e))
+
+-- a refusal by its reason alone
+abbrev pub reasoned : {T : Type 0} → Result T Refusal → Result T Reason
+reasoned (Ok t) = Ok t
+reasoned (Err r) = Err r.reason
 
 -- an object refused at its start
 abbrev pub refused_by : {I : Type 0} → Reason → Object I → Refusal
@@ -68,15 +80,6 @@ array_in (case.Real p d) = Err (refused_by OtherType (case.Real p d))
 array_in (case.Name n) = Err (refused_by OtherType (case.Name n))
 array_in (case.String s) = Err (refused_by OtherType (case.String s))
 
--- a name, a string or an array that was handed over, as the object that it is
-abbrev pub as_name : {I : Type 0} → Result (Name I) Refusal → Result (Object I) Refusal
-as_name (Ok n) = Ok (case.Name n)
-as_name (Err r) = Err r
-
-abbrev pub as_string : {I : Type 0} → Result (String I) Refusal → Result (Object I) Refusal
-as_string (Ok s) = Ok (case.String s)
-as_string (Err r) = Err r
-
-abbrev pub as_array : {I : Type 0} → Result (Array I) Refusal → Result (Object I) Refusal
-as_array (Ok a) = Ok (case.Array a)
-as_array (Err r) = Err r
+-- a parser gives this answer of an object that it took
+abbrev pub Judged : {I : Type 0} → (I → Meaning) → Parser → Object I → Answer → Type 0
+Judged meaning p x a = (o : Shown) → handed (part_of x).start o ≡ as_handed meaning x → Judges p (part_of x).start o a

@@ -1,6 +1,6 @@
 ghost use Rattle.std.specs.Prelude.{◌≡◌, ◌≤◌, length, IfOk};
 ghost use Rattle.definitions.specs.Decoder.{DecodesSource, DecodesInto, DecodesHeld};
-ghost use Rattle.objects.specs.Decoding.{reason_of, decoder_told, text_of_string, text_of, TextDecodes};
+ghost use Rattle.objects.specs.Decoding.{decoder_told, text_of_string, text_of, TextDecodes};
 ghost use Rattle.objects.specs.Objects.{kind_of, kind_number, part_of, string_kind};
 
 use super::error::{Reason, Refusal};
@@ -8,30 +8,18 @@ use super::object::Object;
 use super::string::{Form, String};
 use reader::source::Source;
 use text::decode::decode;
-use text::undecoded::Undecoded;
-
-fn reason(why: Undecoded) -> Reason
-    ensures { result ≡ reason_of why }
-{
-    match why {
-        Undecoded::Fault(fault) => Reason::Fault(fault),
-        Undecoded::LoneBackslash => Reason::LoneBackslash,
-        Undecoded::ShortBuffer => Reason::ShortBuffer,
-    }
-}
 
 // Decodes the bytes to come of a source as literal text; a refusal is at the place that is given.
+// That the count fits in the buffer is a clause of its own here and below: with it a caller cuts the
+// buffer there, and no proof is needed.
 fn decode_at<S: Source>(source: &S, place: u32, buffer: &mut [u8]) -> Result<usize, Refusal>
     ensures text { DecodesInto buffer.old (S.Source.meaning source.now).to_come place (S.Source.meaning source.now).ending (decoder_told result) buffer.new }
     ensures room { IfOk result (λ n. n ≤ length buffer.new) }
 {
-    match decode(source, buffer) {
-        Ok(count) => Ok(count),
-        Err(why) => Err(Refusal {
-            place,
-            reason: reason(why),
-        }),
-    }
+    decode(source, buffer).map_err(|why| Refusal {
+        place,
+        reason: why.into(),
+    })
 }
 
 // The same of an object's text, or the refusal of an object that has none.
@@ -43,13 +31,11 @@ fn decode_held<I: Source>(
     ensures text { TextDecodes I.Source.meaning buffer.old start text result buffer.new }
     ensures room { IfOk result (λ n. n ≤ length buffer.new) }
 {
-    match text {
-        Ok(inside) => decode_at(&inside, start, buffer),
-        Err(reason) => Err(Refusal {
-            place: start,
-            reason,
-        }),
-    }
+    let inside = text.map_err(|reason| Refusal {
+        place: start,
+        reason,
+    })?;
+    decode_at(&inside, start, buffer)
 }
 
 // Decodes all bytes to come of a source, as literal text, to the front of a buffer, and answers how

@@ -1,7 +1,10 @@
 ghost use Rattle.std.specs.Prelude.{◌≡◌};
+ghost use Rattle.objects.specs.Decoding.{reason_of};
 ghost use Rattle.objects.specs.Refusals.{number_of, error_of};
+ghost use Rattle.objects.specs.declared.error.Reason.TheVariants.{Fault};
 
 use reader::source::Fault;
+use text::undecoded::Undecoded;
 
 // The names of the Rust crate's errors, and two added ones.
 #[derive(Clone, Copy, PartialEq, Eq, Debug)]
@@ -37,6 +40,7 @@ pub enum Reason {
 }
 
 impl Reason {
+    // Not a cast, as a kind's: a fault is carried along.
     pub fn number(&self) -> u8
         ensures { result ≡ number_of self.now }
     {
@@ -50,6 +54,40 @@ impl Reason {
             Reason::Fault(_) => 7,
             Reason::ShortBuffer => 8,
             Reason::LoneBackslash => 9,
+        }
+    }
+}
+
+impl From<Fault> for Reason {
+    ghost from_gives = { λ fault reason. reason ≡ Fault fault };
+
+    fn from(fault: Fault) -> Reason {
+        Reason::Fault(fault)
+    }
+}
+
+impl From<Undecoded> for Reason {
+    ghost from_gives = { λ why reason. reason ≡ reason_of why };
+
+    fn from(why: Undecoded) -> Reason {
+        match why {
+            Undecoded::Fault(fault) => fault.into(),
+            Undecoded::LoneBackslash => Reason::LoneBackslash,
+            Undecoded::ShortBuffer => Reason::ShortBuffer,
+        }
+    }
+}
+
+impl From<Reason> for Error {
+    ghost from_gives = { λ reason error. error ≡ error_of (number_of reason) };
+
+    fn from(reason: Reason) -> Error {
+        match reason {
+            Reason::PastLimits => Error::LimitCheck,
+            Reason::Unsupported => Error::UnsupportedType,
+            Reason::Fault(_) => Error::SourceFault,
+            Reason::ShortBuffer => Error::ShortBuffer,
+            _ => Error::SyntaxError,
         }
     }
 }
@@ -71,12 +109,6 @@ impl Refusal {
     pub fn error(&self) -> Error
         ensures { result ≡ error_of (number_of self.now.reason) }
     {
-        match self.reason {
-            Reason::PastLimits => Error::LimitCheck,
-            Reason::Unsupported => Error::UnsupportedType,
-            Reason::Fault(_) => Error::SourceFault,
-            Reason::ShortBuffer => Error::ShortBuffer,
-            _ => Error::SyntaxError,
-        }
+        self.reason.into()
     }
 }

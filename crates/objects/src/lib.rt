@@ -8,3 +8,4 @@ pub mod name;
 pub mod object;
 pub mod part;
 pub mod string;
+pub mod typed;

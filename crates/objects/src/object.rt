@@ -1,6 +1,6 @@
-ghost use Rattle.std.specs.Prelude.{◌≡◌};
+ghost use Rattle.std.specs.Prelude.{◌≡◌, IfErr};
 ghost use Rattle.objects.specs.Objects.{kind_of, part_of};
-ghost use Rattle.objects.specs.Answers.{NumberIn, refused_by, name_in, string_in, array_in};
+ghost use Rattle.objects.specs.Answers.{NumberIn, reasoned, refused_by, name_in, string_in, array_in};
 
 use super::array::Array;
 use super::error::{Reason, Refusal};
@@ -28,8 +28,8 @@ impl<I: Copy> Object<I> {
         ensures { result ≡ kind_of self.now }
     {
         match self {
-            Object::Integer(_, _) => Kind::Integer,
-            Object::Real(_, _) => Kind::Real,
+            Object::Integer(..) => Kind::Integer,
+            Object::Real(..) => Kind::Real,
             Object::Name(name) => name.kind(),
             Object::String(string) => string.kind(),
             Object::Array(_) => Kind::Array,
@@ -41,8 +41,7 @@ impl<I: Copy> Object<I> {
         ensures { result ≡ part_of self.now }
     {
         match self {
-            Object::Integer(part, _) => *part,
-            Object::Real(part, _) => *part,
+            Object::Integer(part, _) | Object::Real(part, _) => *part,
             Object::Name(name) => name.part,
             Object::String(string) => string.part,
             Object::Array(array) => array.part,
@@ -61,19 +60,21 @@ impl<I: Copy> Object<I> {
 
     // The number of an integer or of a near real. A far real is past the limits of a single, and any
     // other object is of another type.
-    pub fn number(&self) -> Result<Number, Reason>
-        ensures { NumberIn self.now result }
+    pub fn number(&self) -> Result<Number, Refusal>
+        ensures number { NumberIn self.now (reasoned result) }
+        ensures place { IfErr result (λ r. r.place ≡ (part_of self.now).start) }
     {
         match self {
             Object::Integer(_, n) => Ok(Number::Integer(*n)),
-            Object::Real(_, real) => match nearest(real) {
-                Some(x) => Ok(Number::Real(x)),
-                None => Err(Reason::PastLimits),
-            },
-            _ => Err(Reason::OtherType),
+            Object::Real(_, real) => {
+                let x = nearest(real).ok_or(self.refused(Reason::PastLimits))?;
+                Ok(Number::Real(x))
+            }
+            _ => Err(self.refused(Reason::OtherType)),
         }
     }
 
+    // One function for each case that is handed over as it is: a pattern can't be a parameter.
     pub fn name(&self) -> Result<Name<I>, Refusal>
         ensures { result ≡ name_in self.now }
     {

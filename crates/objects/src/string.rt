@@ -18,14 +18,22 @@ pub struct String<I> {
     pub form: Form,
 }
 
-impl<I: Copy> String<I> {
-    pub fn kind(&self) -> Kind
-        ensures { result ≡ string_kind self.now.form }
-    {
-        match self.form {
+impl From<Form> for Kind {
+    ghost from_gives = { λ form kind. kind ≡ string_kind form };
+
+    fn from(form: Form) -> Kind {
+        match form {
             Form::Literal => Kind::LiteralString,
             Form::Hex => Kind::HexString,
             Form::Ascii85 => Kind::Ascii85String,
         }
+    }
+}
+
+impl<I: Copy> String<I> {
+    pub fn kind(&self) -> Kind
+        ensures { result ≡ string_kind self.now.form }
+    {
+        self.form.into()
     }
 }

@@ -3,7 +3,7 @@ use Rattle.std.proofs.Common.{◌≡◌, ℕ, zero, suc, ◌+◌, ◌-◌, ◌�
 use Rattle.definitions.specs.Grammar.{Shown, an_object}
 use Rattle.definitions.specs.Moves.{Moved}
 use Rattle.definitions.specs.Outcomes.{outcome, before as bytes_before, chop, unclosed_number, of_opener}
-use Rattle.definitions.specs.PlainReader.{carried}
+use Rattle.definitions.specs.PlainReader.{carried, after}
 use Rattle.definitions.specs.SharedRun.{opener_length}
 use Rattle.definitions.specs.Sources.{Meaning, Ending, clean, fault, if_there, window}
 use Rattle.reader.specs.Addresses.{Address, further}
@@ -15,7 +15,6 @@ use Rattle.postscript.specs.Reading.{Came, Between, OpenReason, AtEnd, Read}
 use Rattle.objects.specs.Refusals.{number_of, fault_of}
 use Rattle.objects.specs.declared.error.Reason.{Reason}
 use Rattle.objects.specs.declared.error.Reason.TheVariants.{Unclosed}
-use Rattle.objects.specs.declared.error.Refusal.{Refusal}
 use Rattle.objects.specs.declared.object.Object.{Object}
 
 -- a list without its last byte, cut before
@@ -53,23 +52,23 @@ module _ {I : Type 0} (meaning : I → Meaning) (lies : I → Option Address) wh
         };
       }
 
+  -- the bytes ran out
+  spent : (before now : Meaning) → Moved before now → now.to_come ≡ [] → now ≡ after before before.to_come []
+  spent before now m s j = record { to_come = s j; place = (sym (add-zero now.place) ∙ ap (λ l. now.place + length l) (sym s) ∙ m.end) j; ending = m.ending j }
+
   -- a string or an array that was not closed
   at_clean : (r : Reason) (e : Ending) → AtEnd e Unclosed r → (number_of r ≡ unclosed_number e) × (fault_of r ≡ carried (unclosed_number e) e)
   at_clean r clean h = (ap number_of h, ap fault_of h)
   at_clean r (fault l c) h = (ap number_of h, ap fault_of h)
 
-  pub left_open : (r : Refusal) (o : Open) (before now : Meaning) (home : Option Address) → (r.place ≡ before.place) × OpenReason o now r.reason → Spent (Err o) now.to_come → Moved before now
+  pub left_open : (r : Reason) (o : Open) (before now : Meaning) (home : Option Address) → OpenReason o now r → Spent (Err o) now.to_come → Moved before now
       → outcome before.to_come before.ending ≡ of_opener before.to_come before.ending (found (Err o) 0 now.to_come) → Read meaning lies before now home (Err r)
-  left_open r RanOut before now home (p, q) s m h =
-      let t = at_clean r.reason before.ending (subst (λ e. AtEnd e Unclosed r.reason) m.ending (q s)) in
-      let n : now.place ≡ before.place + length before.to_come = sym (add-zero now.place) ∙ ap (λ l. now.place + length l) (sym s) ∙ m.end in
-      record {
-        came = subst (λ c. Came meaning c (Err r) before now) (sym h) (t.0, p, t.1, (λ j. record { to_come = s j; place = n j; ending = m.ending j }));
-        insides = tt;
-      }
-  left_open r LacksClose before now home (p, q) s m h =
+  left_open r RanOut before now home q s m h =
+      let t = at_clean r before.ending (subst (λ e. AtEnd e Unclosed r) m.ending (q s)) in
+      record { came = subst (λ c. Came meaning c (Err r) before now) (sym h) (t.0, t.1, spent before now m s); insides = tt }
+  left_open r LacksClose before now home q s m h =
       let n : now.place ≡ before.place + length (bytes_before before.to_come now.to_come) = simp length-take (omega (arith, m.end, m.forward)) in
       record {
-        came = subst (λ c. Came meaning c (Err r) before now) (sym h) (ap number_of q, p, ap fault_of q, (λ j. record { to_come = now.to_come; place = n j; ending = m.ending j }));
+        came = subst (λ c. Came meaning c (Err r) before now) (sym h) (ap number_of q, ap fault_of q, (λ j. record { to_come = now.to_come; place = n j; ending = m.ending j }));
         insides = tt;
       }

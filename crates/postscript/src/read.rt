@@ -1,13 +1,12 @@
 ghost use Rattle.std.specs.Prelude.{◌≡◌, ◌+◌, ◌≤◌, true, false, List, [], Some, MatchResult, ◌≢◌};
-ghost use Rattle.definitions.specs.Grammar.{HexHead};
 ghost use Rattle.definitions.specs.Gaps.{PastGap};
 ghost use Rattle.definitions.specs.Moves.{first, rest};
 ghost use Rattle.definitions.specs.Outcomes.{of_close};
 ghost use Rattle.definitions.specs.PlainReader.{Piece, Turn, parses, parse_object};
 ghost use Rattle.definitions.specs.Sources.{fault};
-ghost use Rattle.syntax.specs.Skips.{Closes};
+ghost use Rattle.syntax.specs.Skips.{Closes, Skipped};
 ghost use Rattle.objects.specs.Answers.{answered};
-ghost use Rattle.postscript.specs.Reading.{AtEnd, OpenReason, Between, Closed, Read, Refused, Insides, RunEnds, StartsRun, StartsNoNumber};
+ghost use Rattle.postscript.specs.Reading.{AtEnd, Between, Closed, behind, width_of, scan_of, StartsString, Read, Refused, Insides, RunEnds, StartsRun, StartsName};
 
 use number::machine::{Reading, read as read_run};
 use objects::array::Array;
@@ -23,202 +22,157 @@ use syntax::gap::pass_gap;
 use syntax::open::Open;
 use syntax::string::{skip_ascii85, skip_hex, skip_literal};
 
-// The fault at which the bytes ran out, or another reason at a clean end.
-fn at_end_or<S: Source>(source: &S, clean: Reason) -> Reason
-    ensures { (S.Source.meaning source.now).to_come ≡ [] → AtEnd (S.Source.meaning source.now).ending «clean» result }
-{
-    match source.ending() {
-        Some(Err(f)) => Reason::Fault(f),
-        _ => clean,
-    }
-}
-
-// Why what was opened is refused.
-fn open_reason<S: Source>(source: &S, open: Open) -> Reason
-    ensures { OpenReason «open» (S.Source.meaning source.now) result }
-{
-    match open {
-        Open::RanOut => at_end_or(source, Reason::Unclosed),
-        Open::LacksClose => Reason::Unclosed,
-    }
-}
-
-// What stands between an opener and a closer of so many bytes, once the closer was passed.
-fn between<S: Windowed>(start: u32, from: &S, source: &S, closer: u32) -> Part<S::Inside>
-    requires { (S.Source.meaning from.now).place + closer ≤ (S.Source.meaning source.now).place }
-    ensures { Between S.Inside.Source.meaning S.Inside.Source.lies start (S.Source.meaning from.now) (S.Source.meaning source.now) (S.Source.lies from.now) closer result }
-{
-    let end = source.place();
-    let count = end - from.place() - closer;
-    Part {
-        start,
-        end,
-        inside: from.window(count),
-    }
-}
-
-// The part that a skip closed, or the refusal of what it left open.
-fn closed<S: Windowed>(
-    start: u32,
-    from: &S,
-    source: &S,
-    skipped: Result<(), Open>,
-    closer: u32,
-) -> Result<Part<S::Inside>, Refusal>
-    requires { Closes skipped closer (S.Source.meaning from.now) (S.Source.meaning source.now) }
-    ensures { Closed S.Inside.Source.meaning S.Inside.Source.lies skipped start (S.Source.meaning from.now) (S.Source.meaning source.now) (S.Source.lies from.now) closer result }
-{
-    match skipped {
-        Ok(()) => Ok(between(start, from, source, closer)),
-        Err(open) => Err(Refusal {
-            place: start,
-            reason: open_reason(source, open),
-        }),
-    }
-}
-
-fn literal_string<S: Windowed>(source: &mut S) -> Result<Object<S::Inside>, Refusal>
-    requires { first (S.Source.meaning source.old).to_come ≡ Some 40 }
-    ensures reads { Read S.Inside.Source.meaning S.Inside.Source.lies (S.Source.meaning source.old) (S.Source.meaning source.new) (S.Source.lies source.old) result }
-    ensures lies { S.Source.lies source.new ≡ S.Source.lies source.old }
-{
-    let start = source.place();
-    source.step();
-    let from = *source;
-    let skipped = skip_literal(source);
-    let part = closed(start, &from, source, skipped, 1)?;
-    Ok(Object::String(String {
-        part,
-        form: Form::Literal,
-    }))
-}
-
-fn hex_string<S: Windowed>(source: &mut S) -> Result<Object<S::Inside>, Refusal>
-    requires { (first (S.Source.meaning source.old).to_come ≡ Some 60) × (HexHead (rest (S.Source.meaning source.old).to_come)) }
-    ensures reads { Read S.Inside.Source.meaning S.Inside.Source.lies (S.Source.meaning source.old) (S.Source.meaning source.new) (S.Source.lies source.old) result }
-    ensures lies { S.Source.lies source.new ≡ S.Source.lies source.old }
-{
-    let start = source.place();
-    source.step();
-    let from = *source;
-    let skipped = skip_hex(source);
-    let part = closed(start, &from, source, skipped, 1)?;
-    Ok(Object::String(String {
-        part,
-        form: Form::Hex,
-    }))
-}
-
-fn ascii85_string<S: Windowed>(source: &mut S) -> Result<Object<S::Inside>, Refusal>
-    requires { (first (S.Source.meaning source.old).to_come ≡ Some 60) × (first (rest (S.Source.meaning source.old).to_come) ≡ Some 126) }
-    ensures reads { Read S.Inside.Source.meaning S.Inside.Source.lies (S.Source.meaning source.old) (S.Source.meaning source.new) (S.Source.lies source.old) result }
-    ensures lies { S.Source.lies source.new ≡ S.Source.lies source.old }
-{
-    let start = source.place();
-    source.step();
-    source.step();
-    let from = *source;
-    let skipped = skip_ascii85(source);
-    let part = closed(start, &from, source, skipped, 2)?;
-    Ok(Object::String(String {
-        part,
-        form: Form::Ascii85,
-    }))
-}
-
-fn array<S: Windowed>(source: &mut S) -> Result<Object<S::Inside>, Refusal>
-    requires { first (S.Source.meaning source.old).to_come ≡ Some 91 }
-    ensures reads { Read S.Inside.Source.meaning S.Inside.Source.lies (S.Source.meaning source.old) (S.Source.meaning source.new) (S.Source.lies source.old) result }
-    ensures lies { S.Source.lies source.new ≡ S.Source.lies source.old }
-{
-    let start = source.place();
-    source.step();
-    let from = *source;
-    let skipped = skip_array(source);
-    let part = closed(start, &from, source, skipped, 1)?;
-    Ok(Object::Array(Array { part }))
-}
-
 // A run needs a byte or a clean end after it: the fault at which it ended, if it did.
 fn run_end<S: Source>(source: &S) -> Result<(), Fault>
     ensures { MatchResult result (λ _. RunEnds (S.Source.meaning source.now).to_come (S.Source.meaning source.now).ending) (λ f. ((S.Source.meaning source.now).to_come ≡ []) × ((S.Source.meaning source.now).ending ≡ fault f.layer f.cause)) }
 {
-    match source.ending() {
-        Some(Err(f)) => Err(f),
-        _ => Ok(()),
+    source.ending().unwrap_or(Ok(()))
+}
+
+// Why the bytes ran out: a fault, or another reason at a clean end.
+fn ran_out<S: Source>(source: &S, clean: Reason) -> Reason
+    ensures { (S.Source.meaning source.now).to_come ≡ [] → AtEnd (S.Source.meaning source.now).ending «clean» result }
+{
+    match run_end(source) {
+        Ok(()) => clean,
+        Err(f) => f.into(),
     }
 }
 
-fn literal_name<S: Windowed>(source: &mut S) -> Result<Object<S::Inside>, Refusal>
-    requires { first (S.Source.meaning source.old).to_come ≡ Some 47 }
+// What an object's part is cut from: where it starts, and its source behind the opener.
+#[derive(Clone, Copy)]
+struct Opened<S> {
+    start: u32,
+    from: S,
+}
+
+impl<S: Windowed> Opened<S> {
+    // Passes an opener of so many bytes.
+    #[tactic(auto, using(crate::proofs::Bracketed::stepped_behind, crate::proofs::Bracketed::behind_none))]
+    fn behind(source: &mut S, opener: u32) -> Opened<S>
+        ensures starts { result.start ≡ (S.Source.meaning source.old).place }
+        ensures from { result.from ≡ source.new }
+        ensures means { S.Source.meaning source.new ≡ behind opener (S.Source.meaning source.old) }
+        ensures lies { S.Source.lies source.new ≡ S.Source.lies source.old }
+    {
+        let start = source.place();
+        for _ in 0..opener {
+            source.step();
+        }
+        Opened {
+            start,
+            from: *source,
+        }
+    }
+
+    // The part up to where its source stands now, less a closer of so many bytes.
+    fn part(&self, source: &S, closer: u32) -> Part<S::Inside>
+        requires { (S.Source.meaning self.now.from).place + closer ≤ (S.Source.meaning source.now).place }
+        ensures { Between S.Inside.Source.meaning S.Inside.Source.lies self.now.start (S.Source.meaning self.now.from) (S.Source.meaning source.now) (S.Source.lies self.now.from) closer result }
+    {
+        let end = source.place();
+        let count = end - self.from.place() - closer;
+        Part {
+            start: self.start,
+            end,
+            inside: self.from.window(count),
+        }
+    }
+
+    // The part that a skip closed, or why it is left open.
+    fn closed(
+        &self,
+        source: &S,
+        skipped: Result<(), Open>,
+        closer: u32,
+    ) -> Result<Part<S::Inside>, Reason>
+        requires { Closes skipped closer (S.Source.meaning self.now.from) (S.Source.meaning source.now) }
+        ensures { Closed S.Inside.Source.meaning S.Inside.Source.lies skipped self.now.start (S.Source.meaning self.now.from) (S.Source.meaning source.now) (S.Source.lies self.now.from) closer result }
+    {
+        match skipped {
+            Ok(()) => Ok(self.part(source, closer)),
+            Err(Open::RanOut) => Err(ran_out(source, Reason::Unclosed)),
+            Err(Open::LacksClose) => Err(Reason::Unclosed),
+        }
+    }
+}
+
+// How long a string's opener is, and its closer.
+fn width(form: Form) -> u32
+    ensures { result ≡ width_of form }
+{
+    match form {
+        Form::Literal | Form::Hex => 1,
+        Form::Ascii85 => 2,
+    }
+}
+
+fn skip_string<S: Source>(source: &mut S, form: Form) -> Result<(), Open>
+    ensures skips { Skipped (scan_of form) (width_of form) result (S.Source.meaning source.old) (S.Source.meaning source.new) }
+    ensures lies { S.Source.lies source.new ≡ S.Source.lies source.old }
+{
+    match form {
+        Form::Literal => skip_literal(source),
+        Form::Hex => skip_hex(source),
+        Form::Ascii85 => skip_ascii85(source),
+    }
+}
+
+fn string<S: Windowed>(source: &mut S, form: Form) -> Result<Object<S::Inside>, Reason>
+    requires { StartsString form (S.Source.meaning source.old).to_come }
     ensures reads { Read S.Inside.Source.meaning S.Inside.Source.lies (S.Source.meaning source.old) (S.Source.meaning source.new) (S.Source.lies source.old) result }
     ensures lies { S.Source.lies source.new ≡ S.Source.lies source.old }
 {
-    let start = source.place();
-    source.step();
-    let from = *source;
+    let width = width(form);
+    let opened = Opened::behind(source, width);
+    let skipped = skip_string(source, form);
+    let part = opened.closed(source, skipped, width)?;
+    Ok(Object::String(String { part, form }))
+}
+
+fn array<S: Windowed>(source: &mut S) -> Result<Object<S::Inside>, Reason>
+    requires { first (S.Source.meaning source.old).to_come ≡ Some 91 }
+    ensures reads { Read S.Inside.Source.meaning S.Inside.Source.lies (S.Source.meaning source.old) (S.Source.meaning source.new) (S.Source.lies source.old) result }
+    ensures lies { S.Source.lies source.new ≡ S.Source.lies source.old }
+{
+    let opened = Opened::behind(source, 1);
+    let skipped = skip_array(source);
+    let part = opened.closed(source, skipped, 1)?;
+    Ok(Object::Array(Array { part }))
+}
+
+// A run behind a slash, or one that begins as no number does.
+fn name<S: Windowed>(source: &mut S, literal: bool) -> Result<Object<S::Inside>, Reason>
+    requires { StartsName literal (S.Source.meaning source.old).to_come }
+    ensures reads { Read S.Inside.Source.meaning S.Inside.Source.lies (S.Source.meaning source.old) (S.Source.meaning source.new) (S.Source.lies source.old) result }
+    ensures lies { S.Source.lies source.new ≡ S.Source.lies source.old }
+{
+    let opened = Opened::behind(source, u32::from(literal));
     pass(source, &Class::Regular);
-    if let Err(f) = run_end(source) {
-        return Err(Refusal {
-            place: start,
-            reason: Reason::Fault(f),
-        });
-    }
-    Ok(Object::Name(Name {
-        part: between(start, &from, source, 0),
-        literal: true,
-    }))
+    run_end(source)?;
+    let part = opened.part(source, 0);
+    Ok(Object::Name(Name { part, literal }))
 }
 
 // A run that begins as a number may: what it is, the number machine says.
-fn number_run<S: Windowed>(source: &mut S) -> Result<Object<S::Inside>, Refusal>
+fn number_run<S: Windowed>(source: &mut S) -> Result<Object<S::Inside>, Reason>
     requires { StartsRun (S.Source.meaning source.old).to_come }
     ensures reads { Read S.Inside.Source.meaning S.Inside.Source.lies (S.Source.meaning source.old) (S.Source.meaning source.new) (S.Source.lies source.old) result }
     ensures lies { S.Source.lies source.new ≡ S.Source.lies source.old }
 {
-    let place = source.place();
-    let from = *source;
+    let opened = Opened::behind(source, 0);
     let reading = read_run(source);
-    if let Err(f) = run_end(source) {
-        return Err(Refusal {
-            place,
-            reason: Reason::Fault(f),
-        });
-    }
-    let part = between(place, &from, source, 0);
+    run_end(source)?;
+    let part = opened.part(source, 0);
     match reading {
         Reading::Integer(n) => Ok(Object::Integer(part, n)),
         Reading::Real(d) => Ok(Object::Real(part, d)),
-        Reading::PastLimits => Err(Refusal {
-            place,
-            reason: Reason::PastLimits,
-        }),
+        Reading::PastLimits => Err(Reason::PastLimits),
         Reading::Name => Ok(Object::Name(Name {
             part,
             literal: false,
         })),
     }
-}
-
-// A run that begins as no number does.
-fn executable_name<S: Windowed>(source: &mut S) -> Result<Object<S::Inside>, Refusal>
-    requires { (StartsRun (S.Source.meaning source.old).to_come) × (StartsNoNumber (S.Source.meaning source.old).to_come) }
-    ensures reads { Read S.Inside.Source.meaning S.Inside.Source.lies (S.Source.meaning source.old) (S.Source.meaning source.new) (S.Source.lies source.old) result }
-    ensures lies { S.Source.lies source.new ≡ S.Source.lies source.old }
-{
-    let place = source.place();
-    let from = *source;
-    pass(source, &Class::Regular);
-    if let Err(f) = run_end(source) {
-        return Err(Refusal {
-            place,
-            reason: Reason::Fault(f),
-        });
-    }
-    Ok(Object::Name(Name {
-        part: between(place, &from, source, 0),
-        literal: false,
-    }))
 }
 
 // Whether the byte after the first to come is this one.
@@ -227,76 +181,59 @@ fn followed_by<S: Source>(source: &S, b: u8) -> bool
 {
     let mut ahead = *source;
     ahead.step();
-    match ahead.peek() {
-        Some(c) => c == b,
-        None => false,
-    }
+    ahead.peek() == Some(b)
 }
 
-// A single >: it is half of a mark where a fault comes right after it.
-fn single_angle<S: Source>(source: &mut S) -> Refusal
+// Why a single > is refused: it is half of a mark where a fault comes right after it.
+fn single_angle<S: Source>(source: &mut S) -> Reason
     requires { first (S.Source.meaning source.old).to_come ≡ Some 62 }
     ensures closes { Refused (of_close (rest (S.Source.meaning source.old).to_come) (S.Source.meaning source.old).ending) result (S.Source.meaning source.old) (S.Source.meaning source.new) }
     ensures lies { S.Source.lies source.new ≡ S.Source.lies source.old }
 {
-    let place = source.place();
     let mut ahead = *source;
     ahead.step();
-    if let Err(f) = run_end(&ahead) {
-        *source = ahead;
-        return Refusal {
-            place,
-            reason: Reason::Fault(f),
-        };
-    }
-    Refusal {
-        place,
-        reason: Reason::Stray,
+    match run_end(&ahead) {
+        Ok(()) => Reason::Stray,
+        Err(f) => {
+            *source = ahead;
+            f.into()
+        }
     }
 }
 
 // What stands after the gap: its first byte decides which rule is tried.
-fn read_here<S: Windowed>(source: &mut S) -> Result<Object<S::Inside>, Refusal>
+fn read_here<S: Windowed>(source: &mut S) -> Result<Object<S::Inside>, Reason>
     requires { PastGap (S.Source.meaning source.old).to_come }
     ensures reads { Read S.Inside.Source.meaning S.Inside.Source.lies (S.Source.meaning source.old) (S.Source.meaning source.new) (S.Source.lies source.old) result }
     ensures lies { S.Source.lies source.new ≡ S.Source.lies source.old }
 {
-    let place = source.place();
     let Some(b) = source.peek() else {
-        return Err(Refusal {
-            place,
-            reason: at_end_or(source, Reason::Missing),
-        });
+        return Err(ran_out(source, Reason::Missing));
     };
     match b {
-        b'(' => literal_string(source),
-        b'<' if followed_by(source, b'~') => ascii85_string(source),
-        b'<' => hex_string(source),
+        b'(' => string(source, Form::Literal),
+        b'<' if followed_by(source, b'~') => string(source, Form::Ascii85),
+        b'<' => string(source, Form::Hex),
         b'[' => array(source),
-        b'/' => literal_name(source),
+        b'/' => name(source, true),
         b'0'..=b'9' | b'+' | b'-' | b'.' => number_run(source),
-        b')' | b']' | b'}' => Err(Refusal {
-            place,
-            reason: Reason::Stray,
-        }),
+        b')' | b']' | b'}' => Err(Reason::Stray),
         b'>' => Err(single_angle(source)),
         b'{' => {
             source.step();
-            Err(Refusal {
-                place,
-                reason: Reason::Unsupported,
-            })
+            Err(Reason::Unsupported)
         }
-        _ => executable_name(source),
+        _ => name(source, false),
     }
 }
 
-// One turn: passes the gap, and reads what stands after it.
+// One turn: passes the gap, and reads what stands after it. A refusal is at the gap's end.
 pub(crate) fn read<S: Windowed>(source: &mut S) -> Result<Object<S::Inside>, Refusal>
     ensures turn { (ps : List Piece) × Turn (S.Source.meaning source.old) (parses parse_object) (answered S.Inside.Source.meaning result) ps (S.Source.meaning source.new) }
     ensures insides { Insides S.Inside.Source.meaning S.Inside.Source.lies (S.Source.lies source.old) result }
     ensures lies { S.Source.lies source.new ≡ S.Source.lies source.old }
 {
     pass_gap(source);
-    read_here(source)
+    let place = source.place();
+    read_here(source).map_err(|reason| Refusal { place, reason })
 }

@@ -1,7 +1,7 @@
-ghost use Rattle.std.specs.Prelude.{◌≡◌, ℕ, List, [], ◌∷◌};
+ghost use Rattle.std.specs.Prelude.{◌≡◌, ℕ, List, [], ◌∷◌, IfOk, IfSome};
 ghost use Rattle.definitions.specs.PlainReader.{Turn, Piece, parses, parse_object, parse_number, parse_name, parse_string, parse_array, at_end, yes_no, gap};
-ghost use Rattle.objects.specs.Answers.{answered, number_answered, as_name, as_string, as_array};
-ghost use Rattle.postscript.specs.Reading.{Insides};
+ghost use Rattle.objects.specs.Answers.{told, held, answered, number_answered};
+ghost use Rattle.postscript.specs.Reading.{Inside, Insides};
 
 use super::read::read;
 use objects::array::Array;
@@ -9,8 +9,10 @@ use objects::error::Refusal;
 use objects::name::Name;
 use objects::object::Object;
 use objects::string::String;
+use objects::typed::Typed;
 use reader::source::{Source, Windowed};
 use single::value::Number;
+use std::marker::Model;
 use syntax::gap::pass_gap;
 
 // A scanner: it reads one object after the other from its source.
@@ -19,9 +21,18 @@ pub struct Scanner<S> {
     source: S,
 }
 
+// Clauses see a scanner as its source.
+impl<S> Model for Scanner<S> {
+    ghost Value = { S };
+
+    ghost view = { λ scanner. scanner.source };
+
+    ghost inverse = { λ source. record { source = source } };
+}
+
 impl<S: Copy> Scanner<S> {
     pub fn new(source: S) -> Scanner<S>
-        ensures { result.source ≡ source }
+        ensures { result ≡ source }
     {
         Scanner { source }
     }
@@ -30,7 +41,7 @@ impl<S: Copy> Scanner<S> {
 impl<S: Windowed> Scanner<S> {
     // The place of the first byte that was not passed yet.
     pub fn place(&self) -> u32
-        ensures { result ≡ (S.Source.meaning self.now.source).place }
+        ensures { result ≡ (S.Source.meaning self.now).place }
     {
         self.source.place()
     }
@@ -38,8 +49,8 @@ impl<S: Windowed> Scanner<S> {
     // Passes the gap, and says whether a clean end is reached.
     #[tactic(auto, using(crate::proofs::Looking::looked))]
     pub fn at_end(&mut self) -> bool
-        ensures turn { (g : List ℕ) × Turn (S.Source.meaning self.old.source) at_end (yes_no result) (gap g ∷ []) (S.Source.meaning self.new.source) }
-        ensures lies { S.Source.lies self.new.source ≡ S.Source.lies self.old.source }
+        ensures turn { (g : List ℕ) × Turn (S.Source.meaning self.old) at_end (yes_no result) (gap g ∷ []) (S.Source.meaning self.new) }
+        ensures lies { S.Source.lies self.new ≡ S.Source.lies self.old }
     {
         pass_gap(&mut self.source);
         matches!(self.source.ending(), Some(Ok(())))
@@ -47,57 +58,58 @@ impl<S: Windowed> Scanner<S> {
 
     // The object after the gap, or the refusal of what stands there.
     pub fn parse_object(&mut self) -> Result<Object<S::Inside>, Refusal>
-        ensures turn { (ps : List Piece) × Turn (S.Source.meaning self.old.source) (parses parse_object) (answered S.Inside.Source.meaning result) ps (S.Source.meaning self.new.source) }
-        ensures insides { Insides S.Inside.Source.meaning S.Inside.Source.lies (S.Source.lies self.old.source) result }
-        ensures lies { S.Source.lies self.new.source ≡ S.Source.lies self.old.source }
+        ensures turn { (ps : List Piece) × Turn (S.Source.meaning self.old) (parses parse_object) (answered S.Inside.Source.meaning result) ps (S.Source.meaning self.new) }
+        ensures insides { Insides S.Inside.Source.meaning S.Inside.Source.lies (S.Source.lies self.old) result }
+        ensures lies { S.Source.lies self.new ≡ S.Source.lies self.old }
     {
         read(&mut self.source)
     }
 
-    // The number after the gap. An object that is none is passed, and refused at its start.
-    pub fn parse_number(&mut self) -> Result<Number, Refusal>
-        ensures turn { (ps : List Piece) × Turn (S.Source.meaning self.old.source) (parses parse_number) (number_answered result) ps (S.Source.meaning self.new.source) }
-        ensures lies { S.Source.lies self.new.source ≡ S.Source.lies self.old.source }
+    // What a typed parser makes of the object after the gap. An object that it does not accept is passed,
+    // and refused at its start.
+    fn parse<T: Typed<S::Inside>>(&mut self) -> Result<T, Refusal>
+        ensures turn { (ps : List Piece) × Turn (S.Source.meaning self.old) (parses T.Typed.parser) (told T.Typed.answer result) ps (S.Source.meaning self.new) }
+        ensures insides { IfOk result (λ t. IfSome (T.Typed.whole t) (Inside S.Inside.Source.meaning S.Inside.Source.lies (S.Source.lies self.old))) }
+        ensures lies { S.Source.lies self.new ≡ S.Source.lies self.old }
     {
         let object = self.parse_object()?;
-        match object.number() {
-            Ok(number) => Ok(number),
-            Err(reason) => Err(Refusal {
-                place: object.part().start,
-                reason,
-            }),
-        }
+        T::of(&object)
+    }
+
+    // The number after the gap. An object that is none is passed, and refused at its start.
+    pub fn parse_number(&mut self) -> Result<Number, Refusal>
+        ensures turn { (ps : List Piece) × Turn (S.Source.meaning self.old) (parses parse_number) (number_answered result) ps (S.Source.meaning self.new) }
+        ensures lies { S.Source.lies self.new ≡ S.Source.lies self.old }
+    {
+        self.parse::<Number>()
     }
 
     // The next three are not public yet: a caller has them once a run of any calls is proved whole.
 
     // The name after the gap. An object that is none is passed, and refused at its start.
     pub(crate) fn parse_name(&mut self) -> Result<Name<S::Inside>, Refusal>
-        ensures turn { (ps : List Piece) × Turn (S.Source.meaning self.old.source) (parses parse_name) (answered S.Inside.Source.meaning (as_name result)) ps (S.Source.meaning self.new.source) }
-        ensures insides { Insides S.Inside.Source.meaning S.Inside.Source.lies (S.Source.lies self.old.source) (as_name result) }
-        ensures lies { S.Source.lies self.new.source ≡ S.Source.lies self.old.source }
+        ensures turn { (ps : List Piece) × Turn (S.Source.meaning self.old) (parses parse_name) (told (held S.Inside.Source.meaning Object.Name) result) ps (S.Source.meaning self.new) }
+        ensures insides { IfOk result (λ x. Inside S.Inside.Source.meaning S.Inside.Source.lies (S.Source.lies self.old) (Object.Name x)) }
+        ensures lies { S.Source.lies self.new ≡ S.Source.lies self.old }
     {
-        let object = self.parse_object()?;
-        object.name()
+        self.parse::<Name<S::Inside>>()
     }
 
     // The string after the gap, of any form. An object that is none is passed, and refused at its start.
     pub(crate) fn parse_string(&mut self) -> Result<String<S::Inside>, Refusal>
-        ensures turn { (ps : List Piece) × Turn (S.Source.meaning self.old.source) (parses parse_string) (answered S.Inside.Source.meaning (as_string result)) ps (S.Source.meaning self.new.source) }
-        ensures insides { Insides S.Inside.Source.meaning S.Inside.Source.lies (S.Source.lies self.old.source) (as_string result) }
-        ensures lies { S.Source.lies self.new.source ≡ S.Source.lies self.old.source }
+        ensures turn { (ps : List Piece) × Turn (S.Source.meaning self.old) (parses parse_string) (told (held S.Inside.Source.meaning Object.String) result) ps (S.Source.meaning self.new) }
+        ensures insides { IfOk result (λ x. Inside S.Inside.Source.meaning S.Inside.Source.lies (S.Source.lies self.old) (Object.String x)) }
+        ensures lies { S.Source.lies self.new ≡ S.Source.lies self.old }
     {
-        let object = self.parse_object()?;
-        object.string()
+        self.parse::<String<S::Inside>>()
     }
 
     // The array after the gap. An object that is none is passed, and refused at its start.
     pub(crate) fn parse_array(&mut self) -> Result<Array<S::Inside>, Refusal>
-        ensures turn { (ps : List Piece) × Turn (S.Source.meaning self.old.source) (parses parse_array) (answered S.Inside.Source.meaning (as_array result)) ps (S.Source.meaning self.new.source) }
-        ensures insides { Insides S.Inside.Source.meaning S.Inside.Source.lies (S.Source.lies self.old.source) (as_array result) }
-        ensures lies { S.Source.lies self.new.source ≡ S.Source.lies self.old.source }
+        ensures turn { (ps : List Piece) × Turn (S.Source.meaning self.old) (parses parse_array) (told (held S.Inside.Source.meaning Object.Array) result) ps (S.Source.meaning self.new) }
+        ensures insides { IfOk result (λ x. Inside S.Inside.Source.meaning S.Inside.Source.lies (S.Source.lies self.old) (Object.Array x)) }
+        ensures lies { S.Source.lies self.new ≡ S.Source.lies self.old }
     {
-        let object = self.parse_object()?;
-        object.array()
+        self.parse::<Array<S::Inside>>()
     }
 }

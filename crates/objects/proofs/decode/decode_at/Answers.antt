@@ -1,8 +1,6 @@
-use Rattle.objects.proofs.Decoded.{counted, placed}
+use Rattle.std.proofs.Common.{rules}
+use Rattle.objects.proofs.Decoded.{placed}
 use Rattle.objects.proofs.decode.decode_at.Goals as goal
 
-pub returns-in-Ok : goal.returns-in-Ok
-returns-in-Ok g c = record { text = counted c.args.place c.in-Ok.count c.in-Ok.ensures.text; room = c.in-Ok.ensures.room }
-
-pub returns-in-Err : goal.returns-in-Err
-returns-in-Err g c = record { text = rw c.reason.ensures (placed c.args.place c.in-Err.why c.in-Err.ensures.text); room = tt }
+pub returns-clause-text : goal.returns-clause-text
+returns-clause-text g c = placed c.args.place c.decode.result c.map_err.result c.decode.ensures.text c.map_err.ensures.cases (λ why x k. search rules)
