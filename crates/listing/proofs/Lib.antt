@@ -1,3 +1,3 @@
-pub mod Growing
 pub mod Decimals
 pub mod NextLine
+pub mod Texts

@@ -1,11 +1,12 @@
 -- An entry of a listing, and its line. Assumes nothing.
-use Rattle.std.specs.Prelude.{◌≡◌, ℕ, ◌<◌, ◌≤◌, Bool, true, false, cond, List, [], ◌++◌, length, Ok, Err, Result}
-use Rattle.definitions.specs.Listing.{line, listing, WritesLine}
+use Rattle.std.specs.Prelude.{◌≡◌, ℕ, ◌<◌, ◌≤◌, Bool, true, false, cond, List, [], ◌∷◌, ◌++◌, length, Ok, Err, Result}
+use Rattle.definitions.specs.Bytes.{comma}
+use Rattle.definitions.specs.Listing.{decimal, line, listing, WritesLine}
 use Rattle.definitions.specs.PlainReader.{Answer, object, refusal, yes_no, Piece, Turn, at_end, parses, parse_object}
 use Rattle.definitions.specs.Sources.{Meaning}
 use Rattle.objects.specs.Objects.{as_handed}
 use Rattle.objects.specs.Refusals.{number_of, fault_of}
-use Rattle.definitions.specs.Decoder.{Told, decoded, turned_down}
+use Rattle.definitions.specs.Decoder.{decoded}
 use Rattle.objects.specs.declared.error.Reason.TheVariants.{ShortBuffer}
 use Rattle.objects.specs.declared.error.Refusal.{Refusal}
 use Rattle.listing.specs.declared.entry.Written.{Written}
@@ -24,6 +25,10 @@ place_of (Object o) = 0
 place_of (Refused r) = 0
 place_of (End place) = place
 
+-- a number and a comma
+abbrev pub field : ℕ → List ℕ
+field n = decimal n ++ (comma ∷ [])
+
 -- the line of a refusal
 abbrev pub refusal_line : Refusal → List ℕ
 refusal_line r = line 0 (refusal (number_of r.reason) r.place (fault_of r.reason))
@@ -31,11 +36,6 @@ refusal_line r = line 0 (refusal (number_of r.reason) r.place (fault_of r.reason
 -- the bytes of its line
 abbrev pub line_of : {I : Type 0} → (I → Meaning) → Entry I → List ℕ
 line_of meaning e = line (place_of e) (answer_of meaning e)
-
--- what a call that writes a line answers: the line's length, or a refusal
-abbrev pub told : Result ℕ Refusal → Told
-told (Ok n) = decoded n
-told (Err r) = turned_down (number_of r.reason) r.place (fault_of r.reason)
 
 -- an entry is what comes next of a source: the end, or what stands after the gap
 abbrev pub ComesNext : {I : Type 0} → (I → Meaning) → Meaning → Meaning → Entry I → Type 0

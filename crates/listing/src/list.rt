@@ -1,9 +1,10 @@
 ghost use Rattle.std.specs.Prelude.{◌≡◌};
-ghost use Rattle.listing.specs.Entries.{ComesNext, ends_with, ListsNext};
+ghost use Rattle.listing.specs.Entries.{ComesNext, ListsNext};
 
 use super::entry::{Entry, Written};
-use super::lines::{LONGEST, write_line};
-use objects::error::{Reason, Refusal};
+use super::line::Line;
+use super::lines::check_room;
+use objects::error::Refusal;
 use postscript::scanner::Scanner;
 use reader::source::{Source, Windowed};
 
@@ -20,15 +21,6 @@ fn next_entry<S: Windowed>(scanner: &mut Scanner<S>) -> Entry<S::Inside>
     }
 }
 
-fn is_last<I: Source>(entry: &Entry<I>) -> bool
-    ensures { result ≡ ends_with entry.now }
-{
-    match entry {
-        Entry::Object(_) => false,
-        _ => true,
-    }
-}
-
 // Writes the next line of a listing: it calls at_end, then, on a no, parse_object. A listing ends
 // after a refusal, and on a yes. A short buffer is refused, and nothing moves.
 pub fn list_next<S: Windowed>(
@@ -37,14 +29,9 @@ pub fn list_next<S: Windowed>(
 ) -> Result<Written, Refusal>
     ensures { ListsNext buffer.old buffer.new (S.Source.meaning scanner.old.source) (S.Source.meaning scanner.new.source) result }
 {
-    if buffer.len() < LONGEST {
-        return Err(Refusal {
-            place: 0,
-            reason: Reason::ShortBuffer,
-        });
-    }
+    check_room(buffer)?;
     let entry = next_entry(scanner);
-    let last = is_last(&entry);
-    let length = write_line(&entry, buffer)?;
+    let length = Line::of_entry(&entry).copy_to(buffer);
+    let last = entry.is_last();
     Ok(Written { length, last })
 }
