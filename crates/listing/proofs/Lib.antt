@@ -1,3 +1,4 @@
 pub mod Decimals
 pub mod NextLine
 pub mod Texts
+pub mod Whole

@@ -33,7 +33,7 @@ took_fewer h (Turn.refuses p r) e = let z : ◌≡◌ {A = ℕ} 0 1 = cc in absu
 took_fewer h (Turn.looks p) e = let z : ◌≡◌ {A = ℕ} 0 1 = cc in absurd (omega arith)
 
 module _ {I : Type 0} (meaning : I → Meaning) where
-  next_fewer : (e : Entry I) (s t : Meaning) → ComesNext meaning s t e → ends_with e ≡ false → length t.to_come < length s.to_come
+  pub next_fewer : (e : Entry I) (s t : Meaning) → ComesNext meaning s t e → ends_with e ≡ false → length t.to_come < length s.to_come
   next_fewer (End p) s t x h = let z : ◌≡◌ {A = ℕ} 0 1 = cc in absurd (omega arith)
   next_fewer (Refused r) s t x h = let z : ◌≡◌ {A = ℕ} 0 1 = cc in absurd (omega arith)
   next_fewer (Object o) s t (u, ps, qs, x, y) h = omega (arith, look_fewer x, took_fewer (as_handed meaning o) y refl)

@@ -2,8 +2,8 @@
 use Rattle.std.specs.Prelude.{◌≡◌, ℕ, ◌<◌, ◌≤◌, Bool, true, false, cond, List, [], ◌∷◌, ◌++◌, length, Ok, Err, Result}
 use Rattle.definitions.specs.Bytes.{comma}
 use Rattle.definitions.specs.Listing.{decimal, line, listing, WritesLine}
-use Rattle.definitions.specs.PlainReader.{Answer, object, refusal, yes_no, Piece, Turn, at_end, parses, parse_object}
-use Rattle.definitions.specs.Sources.{Meaning}
+use Rattle.definitions.specs.PlainReader.{Answer, Handed, object, refusal, yes_no, Piece, Turn, at_end, parses, parse_object}
+use Rattle.definitions.specs.Sources.{Ending, Meaning}
 use Rattle.objects.specs.Objects.{as_handed}
 use Rattle.objects.specs.Refusals.{number_of, fault_of}
 use Rattle.definitions.specs.Decoder.{decoded}
@@ -68,3 +68,12 @@ pub record TooShort (buffer after : List ℕ) (s t : Meaning) (r : Refusal) : Ty
 abbrev pub ListsNext : List ℕ → List ℕ → Meaning → Meaning → Result Written Refusal → Type 0
 ListsNext buffer after s t (Ok w) = ListedLine buffer after s t w.length w.last
 ListsNext buffer after s t (Err r) = TooShort buffer after s t r
+
+-- where a source stands once its listing is whole: after the turns that its lines tell of
+pub data ListedUpTo : Meaning → Meaning → Type 0 where
+  -- after a yes
+  ends : {s t : Meaning} {ps : List Piece} → Turn s at_end (yes_no true) ps t → ListedUpTo s t
+  -- after a refusal
+  refuses : {s t u : Meaning} {ps qs : List Piece} {n p : ℕ} {e : Ending} → Turn s at_end (yes_no false) ps t → Turn t (parses parse_object) (refusal n p e) qs u → ListedUpTo s u
+  -- past an object, and up to the end from there on
+  goes_on : {s t u v : Meaning} {ps qs : List Piece} {h : Handed} → Turn s at_end (yes_no false) ps t → Turn t (parses parse_object) (object h) qs u → ListedUpTo u v → ListedUpTo s v

@@ -1,5 +1,7 @@
-ghost use Rattle.std.specs.Prelude.{◌≡◌};
-ghost use Rattle.listing.specs.Entries.{ComesNext, ListsNext};
+ghost use Rattle.std.specs.Prelude.{◌≡◌, OnOk};
+ghost use Rattle.std.specs.Io.KnownBytes.{Appends};
+ghost use Rattle.definitions.specs.Listing.{listing};
+ghost use Rattle.listing.specs.Entries.{ComesNext, ListsNext, ListedUpTo};
 
 use super::entry::{Entry, Written};
 use super::line::Line;
@@ -7,6 +9,8 @@ use super::lines::check_room;
 use objects::error::Refusal;
 use postscript::scanner::Scanner;
 use reader::source::{Source, Windowed};
+use std::io;
+use std::io::Write;
 
 // What the next line tells of.
 fn next_entry<S: Windowed>(scanner: &mut Scanner<S>) -> Entry<S::Inside>
@@ -34,4 +38,22 @@ pub fn list_next<S: Windowed>(
     let length = Line::of_entry(&entry).copy_to(buffer);
     let last = entry.is_last();
     Ok(Written { length, last })
+}
+
+// Writes the whole listing, one write for each line, and stops at the first write that fails.
+pub fn write_listing<S: Windowed, W: Write>(
+    scanner: &mut Scanner<S>,
+    output: &mut W,
+) -> io::Result<()>
+    ensures text { OnOk result (Appends (W.contents output.old) (W.contents output.new) (listing (S.Source.meaning scanner.old.source))) }
+    ensures stands { OnOk result (ListedUpTo (S.Source.meaning scanner.old.source) (S.Source.meaning scanner.new.source)) }
+{
+    loop {
+        let entry = next_entry(scanner);
+        let line = Line::of_entry(&entry);
+        output.write_all(line.as_bytes())?;
+        if entry.is_last() {
+            return Ok(());
+        }
+    }
 }
