@@ -1,6 +1,9 @@
 ghost use Rattle.std.specs.Prelude.{◌≡◌, length};
 ghost use Rattle.definitions.specs.Listing.{decimal};
 
+// Decimal digits. They are this crate's own, and not those of the kit's `itoa`, since one of the
+// edits that the prover must refuse turns them.
+
 // How many decimal digits a number has.
 pub(crate) fn digit_count(n: u64) -> usize
     ensures { result ≡ length (decimal n) }
@@ -8,7 +11,8 @@ pub(crate) fn digit_count(n: u64) -> usize
     n.max(1).ilog10() as usize + 1
 }
 
-// The decimal digits of a number, from the last to the first, in as many slots as it has digits.
+// The decimal digits of a number, from the last to the first, in as many slots as it has digits. By
+// index, since a proof learns nothing of what is written through `iter_mut().rev()`.
 pub(crate) fn write_digits(slots: &mut [u8], n: u64)
     requires { length slots.old ≡ length (decimal n) }
     ensures { slots.new ≡ decimal n }

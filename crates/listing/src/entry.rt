@@ -21,7 +21,8 @@ impl<I> Entry<I> {
     }
 }
 
-// A line that was written: its length, and whether the listing ends with it.
+// A line that was written: its length, and whether the listing ends with it. Each line has both, so
+// no `Option` says it.
 #[derive(Clone, Copy)]
 pub struct Written {
     pub length: usize,

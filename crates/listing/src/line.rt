@@ -16,7 +16,8 @@ use objects::object::Object;
 use reader::source::Source;
 use std::marker::Model;
 
-// How many bytes a source has to come.
+// How many bytes a source has to come. An iterator over a source, of which only the count would be
+// asked, is longer than this loop.
 fn count<S: Source>(source: S) -> u32
     ensures { result ≡ length (S.Source.meaning source).to_come }
 {
@@ -29,7 +30,8 @@ fn count<S: Source>(source: S) -> u32
     count
 }
 
-// A line as it grows: its text so far.
+// A line as it grows: its text so far. The bytes lie in an array, since there is no heap. It is not
+// printed by a `Display`, whose writes may fail, while a line always has room.
 #[derive(Drop)]
 pub struct Line {
     bytes: [u8; LONGEST],

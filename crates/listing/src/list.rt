@@ -48,7 +48,7 @@ pub fn write_listing<S: Windowed, W: Write>(
     ensures text { OnOk result (Appends (W.contents output.old) (W.contents output.new) (listing (S.Source.meaning scanner.old.source))) }
     ensures stands { OnOk result (ListedUpTo (S.Source.meaning scanner.old.source) (S.Source.meaning scanner.new.source)) }
 {
-    loop {
+    'lines: loop {
         let entry = next_entry(scanner);
         let line = Line::of_entry(&entry);
         output.write_all(line.as_bytes())?;
