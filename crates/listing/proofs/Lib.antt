@@ -1,3 +1,4 @@
-pub mod Growing
 pub mod Decimals
 pub mod NextLine
+pub mod Texts
+pub mod Whole

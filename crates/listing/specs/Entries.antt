@@ -1,11 +1,12 @@
 -- An entry of a listing, and its line. Assumes nothing.
-use Rattle.std.specs.Prelude.{◌≡◌, ℕ, ◌<◌, ◌≤◌, Bool, true, false, cond, List, [], ◌++◌, length, Ok, Err, Result}
-use Rattle.definitions.specs.Listing.{line, listing, WritesLine}
-use Rattle.definitions.specs.PlainReader.{Answer, object, refusal, yes_no, Piece, Turn, at_end, parses, parse_object}
-use Rattle.definitions.specs.Sources.{Meaning}
+use Rattle.std.specs.Prelude.{◌≡◌, ℕ, ◌<◌, ◌≤◌, Bool, true, false, cond, List, [], ◌∷◌, ◌++◌, length, Ok, Err, Result}
+use Rattle.definitions.specs.Bytes.{comma}
+use Rattle.definitions.specs.Listing.{decimal, line, listing, WritesLine}
+use Rattle.definitions.specs.PlainReader.{Answer, Handed, object, refusal, yes_no, Piece, Turn, at_end, parses, parse_object}
+use Rattle.definitions.specs.Sources.{Ending, Meaning}
 use Rattle.objects.specs.Objects.{as_handed}
 use Rattle.objects.specs.Refusals.{number_of, fault_of}
-use Rattle.definitions.specs.Decoder.{Told, decoded, turned_down}
+use Rattle.definitions.specs.Decoder.{decoded}
 use Rattle.objects.specs.declared.error.Reason.TheVariants.{ShortBuffer}
 use Rattle.objects.specs.declared.error.Refusal.{Refusal}
 use Rattle.listing.specs.declared.entry.Written.{Written}
@@ -24,6 +25,10 @@ place_of (Object o) = 0
 place_of (Refused r) = 0
 place_of (End place) = place
 
+-- a number and a comma
+abbrev pub field : ℕ → List ℕ
+field n = decimal n ++ (comma ∷ [])
+
 -- the line of a refusal
 abbrev pub refusal_line : Refusal → List ℕ
 refusal_line r = line 0 (refusal (number_of r.reason) r.place (fault_of r.reason))
@@ -31,11 +36,6 @@ refusal_line r = line 0 (refusal (number_of r.reason) r.place (fault_of r.reason
 -- the bytes of its line
 abbrev pub line_of : {I : Type 0} → (I → Meaning) → Entry I → List ℕ
 line_of meaning e = line (place_of e) (answer_of meaning e)
-
--- what a call that writes a line answers: the line's length, or a refusal
-abbrev pub told : Result ℕ Refusal → Told
-told (Ok n) = decoded n
-told (Err r) = turned_down (number_of r.reason) r.place (fault_of r.reason)
 
 -- an entry is what comes next of a source: the end, or what stands after the gap
 abbrev pub ComesNext : {I : Type 0} → (I → Meaning) → Meaning → Meaning → Entry I → Type 0
@@ -68,3 +68,12 @@ pub record TooShort (buffer after : List ℕ) (s t : Meaning) (r : Refusal) : Ty
 abbrev pub ListsNext : List ℕ → List ℕ → Meaning → Meaning → Result Written Refusal → Type 0
 ListsNext buffer after s t (Ok w) = ListedLine buffer after s t w.length w.last
 ListsNext buffer after s t (Err r) = TooShort buffer after s t r
+
+-- where a source stands once its listing is whole: after the turns that its lines tell of
+pub data ListedUpTo : Meaning → Meaning → Type 0 where
+  -- after a yes
+  ends : {s t : Meaning} {ps : List Piece} → Turn s at_end (yes_no true) ps t → ListedUpTo s t
+  -- after a refusal
+  refuses : {s t u : Meaning} {ps qs : List Piece} {n p : ℕ} {e : Ending} → Turn s at_end (yes_no false) ps t → Turn t (parses parse_object) (refusal n p e) qs u → ListedUpTo s u
+  -- past an object, and up to the end from there on
+  goes_on : {s t u v : Meaning} {ps qs : List Piece} {h : Handed} → Turn s at_end (yes_no false) ps t → Turn t (parses parse_object) (object h) qs u → ListedUpTo u v → ListedUpTo s v

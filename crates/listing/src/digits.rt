@@ -1,59 +1,25 @@
-ghost use Rattle.std.specs.Prelude.{◌≡◌, ℕ, ◌+◌, ◌<◌, ◌≤◌, [], ◌∷◌, ◌++◌, length, drop};
-ghost use Rattle.definitions.specs.Listing.{decimal, signed_decimal};
-ghost use Rattle.listing.specs.Appending.{Appends};
+ghost use Rattle.std.specs.Prelude.{◌≡◌, length};
+ghost use Rattle.definitions.specs.Listing.{decimal};
 
-// More text at a place of the buffer; the place after it.
-pub(crate) fn put(buffer: &mut [u8], at: usize, text: &[u8]) -> usize
-    requires { at + length text.now ≤ length buffer.old }
-    ensures { Appends text.now buffer.old at buffer.new result }
+// Decimal digits. They are this crate's own, and not those of the kit's `itoa`, since one of the
+// edits that the prover must refuse turns them.
+
+// How many decimal digits a number has.
+pub(crate) fn digit_count(n: u64) -> usize
+    ensures { result ≡ length (decimal n) }
 {
-    let end = at + text.len();
-    buffer[at..end].copy_from_slice(text);
-    end
+    n.max(1).ilog10() as usize + 1
 }
 
-// The decimal digits of a number, at the end of an array.
-struct Digits {
-    bytes: [u8; 20],
-    from: usize,
-}
-
-fn digits_of(n: u64) -> Digits
-    ensures digits { drop result.from result.bytes ≡ decimal n }
-    ensures within { result.from ≤ 20 }
-    ensures size { length result.bytes ≡ 20 }
+// The decimal digits of a number, from the last to the first, in as many slots as it has digits. By
+// index, since a proof learns nothing of what is written through `iter_mut().rev()`.
+pub(crate) fn write_digits(slots: &mut [u8], n: u64)
+    requires { length slots.old ≡ length (decimal n) }
+    ensures { slots.new ≡ decimal n }
 {
-    let mut bytes = [0; 20];
-    let mut from = 20;
     let mut left = n;
-    while left >= 10 {
-        from -= 1;
-        bytes[from] = b'0' + (left % 10) as u8;
+    for at in (0..slots.len()).rev() {
+        slots[at] = b'0' + (left % 10) as u8;
         left /= 10;
-    }
-    from -= 1;
-    bytes[from] = b'0' + left as u8;
-    Digits { bytes, from }
-}
-
-// A number in decimal digits; the place after them.
-pub(crate) fn put_decimal(buffer: &mut [u8], at: usize, n: u64) -> usize
-    requires { at + length (decimal n) ≤ length buffer.old }
-    ensures { Appends (decimal n) buffer.old at buffer.new result }
-{
-    let Digits { bytes, from } = digits_of(n);
-    put(buffer, at, &bytes[from..])
-}
-
-// The same with a minus in front of what is below 0.
-pub(crate) fn put_signed(buffer: &mut [u8], at: usize, n: i64) -> usize
-    requires { at + length (signed_decimal n) ≤ length buffer.old }
-    ensures { Appends (signed_decimal n) buffer.old at buffer.new result }
-{
-    if n < 0 {
-        let end = put(buffer, at, b"-");
-        put_decimal(buffer, end, n.unsigned_abs())
-    } else {
-        put_decimal(buffer, at, n as u64)
     }
 }

@@ -1,3 +1,6 @@
+ghost use Rattle.std.specs.Prelude.{◌≡◌};
+ghost use Rattle.listing.specs.Entries.{ends_with};
+
 use objects::error::Refusal;
 use objects::object::Object;
 
@@ -9,7 +12,17 @@ pub enum Entry<I> {
     End(u32),
 }
 
-// A line that was written: its length, and whether the listing ends with it.
+impl<I> Entry<I> {
+    // Whether a listing ends with it.
+    pub(crate) fn is_last(&self) -> bool
+        ensures { result ≡ ends_with self.now }
+    {
+        !matches!(self, Entry::Object(_))
+    }
+}
+
+// A line that was written: its length, and whether the listing ends with it. Each line has both, so
+// no `Option` says it.
 #[derive(Clone, Copy)]
 pub struct Written {
     pub length: usize,

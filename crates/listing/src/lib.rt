@@ -2,6 +2,6 @@
 
 mod digits;
 pub mod entry;
-mod line;
+pub mod line;
 pub mod lines;
 pub mod list;

@@ -1,11 +1,16 @@
-ghost use Rattle.std.specs.Prelude.{◌≡◌};
-ghost use Rattle.listing.specs.Entries.{ComesNext, ends_with, ListsNext};
+ghost use Rattle.std.specs.Prelude.{◌≡◌, OnOk};
+ghost use Rattle.std.specs.Io.KnownBytes.{Appends};
+ghost use Rattle.definitions.specs.Listing.{listing};
+ghost use Rattle.listing.specs.Entries.{ComesNext, ListsNext, ListedUpTo};
 
 use super::entry::{Entry, Written};
-use super::lines::{LONGEST, write_line};
-use objects::error::{Reason, Refusal};
+use super::line::Line;
+use super::lines::check_room;
+use objects::error::Refusal;
 use postscript::scanner::Scanner;
 use reader::source::{Source, Windowed};
+use std::io;
+use std::io::Write;
 
 // What the next line tells of.
 fn next_entry<S: Windowed>(scanner: &mut Scanner<S>) -> Entry<S::Inside>
@@ -20,15 +25,6 @@ fn next_entry<S: Windowed>(scanner: &mut Scanner<S>) -> Entry<S::Inside>
     }
 }
 
-fn is_last<I: Source>(entry: &Entry<I>) -> bool
-    ensures { result ≡ ends_with entry.now }
-{
-    match entry {
-        Entry::Object(_) => false,
-        _ => true,
-    }
-}
-
 // Writes the next line of a listing: it calls at_end, then, on a no, parse_object. A listing ends
 // after a refusal, and on a yes. A short buffer is refused, and nothing moves.
 pub fn list_next<S: Windowed>(
@@ -37,14 +33,27 @@ pub fn list_next<S: Windowed>(
 ) -> Result<Written, Refusal>
     ensures { ListsNext buffer.old buffer.new (S.Source.meaning scanner.old) (S.Source.meaning scanner.new) result }
 {
-    if buffer.len() < LONGEST {
-        return Err(Refusal {
-            place: 0,
-            reason: Reason::ShortBuffer,
-        });
-    }
+    check_room(buffer)?;
     let entry = next_entry(scanner);
-    let last = is_last(&entry);
-    let length = write_line(&entry, buffer)?;
+    let length = Line::of_entry(&entry).copy_to(buffer);
+    let last = entry.is_last();
     Ok(Written { length, last })
+}
+
+// Writes the whole listing, one write for each line, and stops at the first write that fails.
+pub fn write_listing<S: Windowed, W: Write>(
+    scanner: &mut Scanner<S>,
+    output: &mut W,
+) -> io::Result<()>
+    ensures text { OnOk result (Appends (W.contents output.old) (W.contents output.new) (listing (S.Source.meaning scanner.old.source))) }
+    ensures stands { OnOk result (ListedUpTo (S.Source.meaning scanner.old.source) (S.Source.meaning scanner.new.source)) }
+{
+    'lines: loop {
+        let entry = next_entry(scanner);
+        let line = Line::of_entry(&entry);
+        output.write_all(line.as_bytes())?;
+        if entry.is_last() {
+            return Ok(());
+        }
+    }
 }

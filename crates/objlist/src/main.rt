@@ -1,10 +1,15 @@
 #![tactic(auto)]
 
-ghost use Rattle.std.specs.Prelude.{◌≤◌, length, IfOk};
+ghost use Rattle.std.specs.Prelude.{◌≤◌, length, IfOk, OnOk};
+ghost use Rattle.std.specs.Io.KnownBytes.{Appends};
+ghost use Rattle.definitions.specs.Listing.{listing};
+ghost use Rattle.definitions.specs.Sources.{lent};
+ghost use Rattle.objects.specs.declared.error.Reason.TheVariants.{ShortBuffer};
+ghost use Rattle.listing.specs.Entries.{refusal_line};
 
-use listing::lines::{LONGEST, write_refusal};
-use listing::list::list_next;
-use objects::error::{Reason, Refusal};
+use listing::line::Line;
+use listing::lines::SHORT_BUFFER;
+use listing::list::write_listing;
 use postscript::scanner::Scanner;
 use reader::lent::Lent;
 use std::io;
@@ -13,7 +18,8 @@ use std::io::{Read, Write};
 // The most bytes that are read.
 const MOST: usize = 65_536;
 
-// Reads until the input ends or the buffer is full, and counts what came.
+// Reads until the input ends or the buffer is full, and counts what came. By hand, since
+// `read_to_end` needs a heap, and `read_exact` does not tell how much came before an end.
 fn fill<R: Read>(input: &mut R, buffer: &mut [u8]) -> io::Result<usize>
     ensures { IfOk result (λ n. n ≤ length buffer.new) }
 {
@@ -29,32 +35,18 @@ fn fill<R: Read>(input: &mut R, buffer: &mut [u8]) -> io::Result<usize>
 }
 
 // The line of an input that is too long.
-fn refuse<W: Write>(output: &mut W) -> io::Result<()> {
-    let mut line = [0u8; LONGEST];
-    if let Ok(length) = write_refusal(
-        &Refusal {
-            place: 0,
-            reason: Reason::ShortBuffer,
-        },
-        &mut line,
-    ) {
-        output.write_all(&line[0..length])?;
-    }
-    Ok(())
+fn refuse<W: Write>(output: &mut W) -> io::Result<()>
+    ensures { OnOk result (Appends (W.contents output.old) (W.contents output.new) (refusal_line (record { place = 0; reason = ShortBuffer }))) }
+{
+    output.write_all(Line::of_refusal(&SHORT_BUFFER).as_bytes())
 }
 
 // Lists the objects of a job, a line each, up to the end or a refusal.
-fn list<W: Write>(job: &[u8], output: &mut W) -> io::Result<()> {
+fn list<W: Write>(job: &[u8], output: &mut W) -> io::Result<()>
+    ensures { OnOk result (Appends (W.contents output.old) (W.contents output.new) (listing (lent job.now))) }
+{
     let mut scanner = Scanner::new(Lent::new(job));
-    let mut line = [0u8; LONGEST];
-    while let Ok(written) = list_next(&mut scanner, &mut line) {
-        let length = written.length;
-        output.write_all(&line[0..length])?;
-        if written.last {
-            break;
-        }
-    }
-    Ok(())
+    write_listing(&mut scanner, output)
 }
 
 fn main(rt: HostRuntime) -> io::Result<()> {
@@ -67,7 +59,7 @@ fn main(rt: HostRuntime) -> io::Result<()> {
     if count == MOST && fill(&mut input, &mut more)? > 0 {
         refuse(&mut output)?;
     } else {
-        list(&bytes[0..count], &mut output)?;
+        list(&bytes[..count], &mut output)?;
     }
     output.flush()
 }

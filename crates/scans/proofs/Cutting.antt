@@ -1,5 +1,5 @@
 -- A window of cut bytes: clean where it is no longer than what is left, cut short otherwise. Assumes nothing.
-use Rattle.std.proofs.Common.{◌≡◌, ℕ, ◌<◌, ◌≤◌, List, length, take, None, Option, sym, ap, ◌∙◌, le-leb}
+use Rattle.std.proofs.Common.{◌≡◌, ℕ, ◌<◌, ◌≤◌, List, length, None, Option, ◌∙◌, le-leb}
 use borrow.Author.Tests.{lt-leb}
 use Rattle.definitions.specs.Sources.{Meaning, clean, if_there, window}
 use Rattle.definitions.proofs.SourceLaws.{there_is}
@@ -17,10 +17,7 @@ fewer : {A : Type 0} (n : ℕ) (bs : List ℕ) (x y : A) → length bs < n → i
 fewer n bs x y h = there_is n bs x y ∙ rw (lt-leb n (length bs) h)
 
 pub whole_window : (n : ℕ) (m w : Meaning) (f : Option Fault) → w ≡ window n m → n ≤ length m.to_come → cut None w ≡ window n (cut f m)
-whole_window n m w f e h =
-    ap (cut None) e ∙ (λ j. record { to_come = take n m.to_come; place = 0; ending = (there n m.to_come clean m.ending h ∙ sym (there n m.to_come clean (cut_short f m.ending) h)) j })
+whole_window n m w f e h = rw (e, there n m.to_come clean m.ending h, there n m.to_come clean (cut_short f m.ending) h)
 
 pub cut_window : (n : ℕ) (m w : Meaning) (f : Option Fault) → w ≡ window n m → length m.to_come < n → cut f w ≡ window n (cut f m)
-cut_window n m w f e h =
-    ap (cut f) e
-    ∙ (λ j. record { to_come = take n m.to_come; place = 0; ending = (ap (cut_short f) (fewer n m.to_come clean m.ending h) ∙ sym (fewer n m.to_come clean (cut_short f m.ending) h)) j })
+cut_window n m w f e h = rw (e, fewer n m.to_come clean m.ending h, fewer n m.to_come clean (cut_short f m.ending) h)

@@ -1,4 +1,4 @@
-ghost use Rattle.std.specs.Prelude.{◌≡◌, None};
+ghost use Rattle.std.specs.Prelude.{None};
 ghost use Rattle.scans.specs.Cuts.{cut_at, cut_limited};
 
 use reader::lent::Lent;
@@ -7,16 +7,8 @@ use reader::source::{Ending, Fault, Source, Windowed};
 // Lent bytes that end in a fault, if one is given: a source of the tests' own.
 #[derive(Clone, Copy)]
 pub struct Cut<'a> {
-    lent: Lent<'a>,
-    fault: Option<Fault>,
-}
-
-impl<'a> Cut<'a> {
-    pub fn new(lent: Lent<'a>, fault: Option<Fault>) -> Cut<'a>
-        ensures { (result.lent ≡ lent.entry) × (result.fault ≡ fault) }
-    {
-        Cut { lent, fault }
-    }
+    pub lent: Lent<'a>,
+    pub fault: Option<Fault>,
 }
 
 impl<'a> Source for Cut<'a> {
@@ -39,13 +31,8 @@ impl<'a> Source for Cut<'a> {
     }
 
     fn ending(&self) -> Option<Ending> {
-        let Some(below) = self.lent.ending() else {
-            return None;
-        };
-        match self.fault {
-            Some(f) => Some(Err(f)),
-            None => Some(below),
-        }
+        let below = self.lent.ending()?;
+        Some(self.fault.map_or(below, Err))
     }
 }
 
@@ -58,10 +45,7 @@ impl<'a> Windowed for Cut<'a> {
         if n as usize <= self.lent.to_come().len() {
             Cut { lent, fault: None }
         } else {
-            Cut {
-                lent,
-                fault: self.fault,
-            }
+            Cut { lent, ..*self }
         }
     }
 }

@@ -1,13 +1,9 @@
-use Rattle.std.proofs.Common.{refl}
-use Rattle.definitions.specs.Listing.{WritesLine}
-use Rattle.listing.proofs.Growing.{whole_line}
-use Rattle.listing.proofs.NextLine.{told_length}
+use Rattle.std.proofs.Common.{◌∙◌}
+use Rattle.std.proofs.lemmas.Result.{err_from_is_err_and}
+use Rattle.listing.proofs.Texts.{refused_short}
 use Rattle.listing.proofs.lines.write_refusal.Goals as goal
 
-pub returns-then-buffer-lt-LONGEST : goal.returns-then-buffer-lt-LONGEST
-returns-then-buffer-lt-LONGEST c = record { line = WritesLine.too_short c.if-buffer-lt-LONGEST.true; room = tt }
-
-pub returns : goal.returns
-returns c =
-    let w = whole_line c.if-buffer-lt-LONGEST.false (rw c.number.ensures at c.put_refusal-end.ensures) in
-    record { line = w; room = told_length _ _ c.put_refusal-end.result _ _ w refl }
+pub returns-in_err-check_room-clause-line : goal.returns-in_err-check_room-clause-line
+returns-in_err-check_room-clause-line c =
+    let p = err_from_is_err_and c.from_residual.result c.from_residual.ensures.1 in
+    rw p.1 (refused_short _ _ _ c.in_err-check_room.ensures.short (p.2 ∙ c.in_err-check_room.ensures.why))
