@@ -45,8 +45,8 @@ pub fn write_listing<S: Windowed, W: Write>(
     scanner: &mut Scanner<S>,
     output: &mut W,
 ) -> io::Result<()>
-    ensures text { OnOk result (Appends (W.contents output.old) (W.contents output.new) (listing (S.Source.meaning scanner.old.source))) }
-    ensures stands { OnOk result (ListedUpTo (S.Source.meaning scanner.old.source) (S.Source.meaning scanner.new.source)) }
+    ensures text { OnOk result (Appends (W.contents output.old) (W.contents output.new) (listing (S.Source.meaning scanner.old))) }
+    ensures stands { OnOk result (ListedUpTo (S.Source.meaning scanner.old) (S.Source.meaning scanner.new)) }
 {
     'lines: loop {
         let entry = next_entry(scanner);
