@@ -11,7 +11,7 @@ use Rattle.number.specs.declared.mantissa.Sign.{Sign}
 use Rattle.number.specs.declared.mantissa.Sign.TheVariants.{Plus, Minus}
 use Rattle.number.specs.declared.state.State.{State}
 use Rattle.number.specs.declared.state.State.TheVariants.{Start, Signed, Whole, Dot, Fraction, Exponent, ExponentSign, Power, Radix, Bits, Dead}
-use Rattle.number.specs.Machine.{minus, bare, base, whole_of, longer_of, placed_of, e_sign, digits_of, power_of, next_of, finish_of}
+use Rattle.number.specs.Machine.{minus, bare, base, whole_of, longer_of, one_place_of, e_sign, digits_of, power_of, next_of, finish_of}
 use Rattle.number.proofs.Caps.{held, capped, radix_cap, c_cap, x_cap, plain_cap}
 
 -- the state after a run
@@ -101,7 +101,7 @@ module _ (s : Option Sign) (c p : ℕ) where
       step (inr e) (inr f) = rw (e, f) (power_run None b bs h)
 
 -- one digit more after the dot
-placed : (s : Option Sign) (c p b : ℕ) → p < 4294967295 → digit b ≡ true → placed_of (mantissa s c p) (b - 48) ≡ mantissa s (c * 10 + digit_worth b) (p + 1)
+placed : (s : Option Sign) (c p b : ℕ) → p < 4294967295 → digit b ≡ true → one_place_of (mantissa s c p) (b - 48) ≡ mantissa s (c * 10 + digit_worth b) (p + 1)
 placed s c p b h e = let q : min (p + 1) 4294967295 ≡ p + 1 = omega arith in ap₂ (λ k n. record { sign = s; c = k; places = n }) (more_digits c (10 ^ 18) b e) q
 
 -- digits after a dot, n with those before them
@@ -119,7 +119,7 @@ fraction_run s c p n (b ∷ bs) h k = step (digit b) refl k (fraction_run s (c *
 
     step : (d : Bool) → digit b ≡ d → p + length (cond d (b ∷ front digit bs) []) ≡ n
         → (p + 1 + length (front digit bs) ≡ n → got (Fraction (mantissa s (c * 10 + digit_worth b) (p + 1))) bs ≡ Told (c * 10 + digit_worth b) (front digit bs) (past digit bs))
-        → got (cond d (Fraction (placed_of (mantissa s c p) (b - 48))) (cond (e_sign b) (Exponent (mantissa s c p)) Dead)) bs ≡ Told c (cond d (b ∷ front digit bs) []) (cond d (past digit bs) (b ∷ bs))
+        → got (cond d (Fraction (one_place_of (mantissa s c p) (b - 48))) (cond (e_sign b) (Exponent (mantissa s c p)) Dead)) bs ≡ Told c (cond d (b ∷ front digit bs) []) (cond d (past digit bs) (b ∷ bs))
     step true e q ih = ap (λ m. got (Fraction m) bs) (placed s c p b (omega arith) e) ∙ ih (omega arith)
     step false e q ih = ends (e_sign b) refl (omega arith)
 
@@ -132,7 +132,7 @@ dot_run s (b ∷ bs) h = step (digit b) refl
     Told : List ℕ → List ℕ → Reading
     Told ds rest = cond (some ds && exponent_test rest) (real_reading (minus s) (value 10 ds) (exponent rest -ℤ pos (length ds))) name
 
-    step : (d : Bool) → digit b ≡ d → got (cond d (Fraction (placed_of (whole_of s 0) (b - 48))) Dead) bs ≡ Told (cond d (b ∷ front digit bs) []) (cond d (past digit bs) (b ∷ bs))
+    step : (d : Bool) → digit b ≡ d → got (cond d (Fraction (one_place_of (whole_of s 0) (b - 48))) Dead) bs ≡ Told (cond d (b ∷ front digit bs) []) (cond d (past digit bs) (b ∷ bs))
     step true e = ap (λ m. got (Fraction m) bs) (placed s 0 0 b (omega arith) e) ∙ fraction_run s (0 * 10 + digit_worth b) (0 + 1) (suc (length (front digit bs))) bs (omega arith) (omega arith)
     step false e = dead_got bs
 

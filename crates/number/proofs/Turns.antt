@@ -1,18 +1,13 @@
 -- What a turn of the number machine comes to. Assumes nothing.
-use Rattle.std.proofs.Common.{◌≡◌, ℕ, suc, ◌≤◌, Bool, true, false, cond, List, [], ◌∷◌, length, Some, None, sym, refl, ap, ◌∙◌, subst, arith}
+use Rattle.std.proofs.Common.{◌≡◌, ℕ, ◌≤◌, Bool, false, List, [], ◌∷◌, length, Some, None, sym, refl, ap, ◌∙◌, subst, arith}
 use Rattle.definitions.specs.Bytes.{regular, front}
-use Rattle.definitions.specs.Moves.{first, rest}
+use Rattle.definitions.specs.Moves.{first}
 use Rattle.definitions.specs.Numbers.{Reading, Reads}
 use Rattle.definitions.proofs.ReadsOnce.{reads}
 use Rattle.number.specs.declared.state.State.{State}
 use Rattle.number.specs.declared.state.State.TheVariants.{Start}
-use Rattle.number.specs.Machine.{next_of, finish_of}
+use Rattle.number.specs.Machine.{finish_of}
 use Rattle.number.proofs.Forms.{run_of, start_run}
-
--- a byte of the run is taken
-pub one_byte : (b : ℕ) (bs : List ℕ) (s : State) → Some b ≡ first bs → regular b ≡ true → run_of (next_of s b) (front regular (rest bs)) ≡ run_of s (front regular bs)
-one_byte b [] s e h = grind arith
-one_byte b (x ∷ bs) s e h = let q : x ≡ b = cc in rw (q, h)
 
 -- nothing is left of the run
 pub at_end : (bs : List ℕ) (s : State) → None ≡ first bs → run_of s (front regular bs) ≡ s
@@ -25,11 +20,7 @@ at_other b (x ∷ bs) s e h = let q : x ≡ b = cc in rw (q, h)
 
 front_shorter : (c : ℕ → Bool) (bs : List ℕ) → length (front c bs) ≤ length bs
 front_shorter c [] = omega arith
-front_shorter c (b ∷ bs) = step (c b) (front_shorter c bs)
-  where
-    step : (t : Bool) → length (front c bs) ≤ length bs → length (cond t (b ∷ front c bs) []) ≤ suc (length bs)
-    step true h = omega arith
-    step false h = omega arith
+front_shorter c (b ∷ bs) = grind (arith, front_shorter c bs)
 
 -- then what the machine answers is the run's reading
 pub answers : (bs : List ℕ) (s : State) (left : List ℕ) (r : Reading) → length bs ≤ 4294967295 → run_of s left ≡ run_of Start (front regular bs) → run_of s left ≡ s → r ≡ finish_of s → Reads (front regular bs) r

@@ -34,9 +34,9 @@ longer c d = min (c * 10 + d) (10 ^ 18)
 abbrev pub longer_of : Mantissa → ℕ → Mantissa
 longer_of m d = record { sign = m.sign; c = longer m.c d; places = m.places }
 
--- one digit more after the dot; the count of them stops where no source ends
-abbrev pub placed_of : Mantissa → ℕ → Mantissa
-placed_of m d = record { sign = m.sign; c = longer m.c d; places = min (m.places + 1) 4294967295 }
+-- one digit more after the dot; the count of places stops at the limit of a source, which no run passes
+abbrev pub one_place_of : Mantissa → ℕ → Mantissa
+one_place_of m d = record { sign = m.sign; c = longer m.c d; places = min (m.places + 1) 4294967295 }
 
 abbrev pub e_sign : ℕ → Bool
 e_sign b = b == small_e || b == capital_e
@@ -58,8 +58,8 @@ abbrev pub next_of : State → ℕ → State
 next_of Start b = cond (b == plus_sign) (Signed Plus) (cond (b == minus_sign) (Signed Minus) (digits_of None b))
 next_of (Signed s) b = digits_of (Some s) b
 next_of (Whole m) b = cond (digit b) (Whole (longer_of m (b - digit_zero))) (cond (b == dot_sign) (Fraction m) (cond (e_sign b) (Exponent m) (cond (b == hash_sign && base m.sign m.c) (Radix m.c) Dead)))
-next_of (Dot s) b = cond (digit b) (Fraction (placed_of (whole_of s 0) (b - digit_zero))) Dead
-next_of (Fraction m) b = cond (digit b) (Fraction (placed_of m (b - digit_zero))) (cond (e_sign b) (Exponent m) Dead)
+next_of (Dot s) b = cond (digit b) (Fraction (one_place_of (whole_of s 0) (b - digit_zero))) Dead
+next_of (Fraction m) b = cond (digit b) (Fraction (one_place_of m (b - digit_zero))) (cond (e_sign b) (Exponent m) Dead)
 next_of (Exponent m) b = cond (b == plus_sign) (ExponentSign m Plus) (cond (b == minus_sign) (ExponentSign m Minus) (power_of m None b))
 next_of (ExponentSign m s) b = power_of m (Some s) b
 next_of (Power m x) b = cond (digit b) (Power m (record { sign = x.sign; n = min (x.n * 10 + (b - digit_zero)) (10 ^ 10) })) Dead

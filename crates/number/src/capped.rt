@@ -36,7 +36,7 @@ impl<const MOST: u64> Capped<MOST> {
         self.n
     }
 
-    // One digit more of a base.
+    // One digit more of a base. What does not fit into 64 bits is past MOST too.
     pub fn with_digit(&self, base: u8, digit: u8) -> Self
         ensures { result ≡ min (self.now * base + digit) MOST }
     {

@@ -22,11 +22,11 @@ pub enum Reading {
     Name,
 }
 
-// A real, if it is within its limits.
-fn real(within: Option<Decimal>) -> Reading
-    ensures { MatchOption within (result ≡ Reading.PastLimits) (λ d. result ≡ Reading.Real d) }
+// A real, or past the limits where there is none.
+fn real_or_past(real: Option<Decimal>) -> Reading
+    ensures { MatchOption real (result ≡ Reading.PastLimits) (λ d. result ≡ Reading.Real d) }
 {
-    within.map_or(Reading::PastLimits, Reading::Real)
+    real.map_or(Reading::PastLimits, Reading::Real)
 }
 
 // The integer of the same 32 bits in two's complement.
@@ -46,10 +46,10 @@ fn finish(state: State) -> Reading
     match state {
         State::Whole(m) => match m.integer() {
             Some(n) => Reading::Integer(n),
-            None => real(m.real(&Exponent::new(None, 0))),
+            None => real_or_past(m.real(&Exponent::new(None, 0))),
         },
-        State::Fraction(m) => real(m.real(&Exponent::new(None, 0))),
-        State::Power(m, x) => real(m.real(&x)),
+        State::Fraction(m) => real_or_past(m.real(&Exponent::new(None, 0))),
+        State::Power(m, x) => real_or_past(m.real(&x)),
         State::Bits(_, bits) => radix(bits),
         _ => Reading::Name,
     }

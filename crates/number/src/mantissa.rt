@@ -1,7 +1,7 @@
 ghost use Rattle.std.specs.Prelude.{◌≡◌, ◌+◌, ◌*◌, ◌^◌, min, ◌<◌, ◌≤◌, true, false, pos, ◌-ℤ◌, MatchOption};
 ghost use Rattle.definitions.specs.Numbers.{signed, settled, Decimal as Limits};
 ghost use Rattle.definitions.specs.Readings.{fits_test};
-ghost use Rattle.number.specs.Machine.{minus, base, whole_of, longer_of, placed_of};
+ghost use Rattle.number.specs.Machine.{minus, base, whole_of, longer_of, one_place_of};
 
 use super::capped::Capped;
 use super::decimal::Decimal;
@@ -98,9 +98,9 @@ impl Mantissa {
         }
     }
 
-    // One digit more after the dot. No source holds so many bytes that the places stop growing.
+    // One digit more after the dot. The places never stop: no source holds so many bytes.
     pub fn with_place(&self, digit: u8) -> Mantissa
-        ensures { result ≡ placed_of self.now digit }
+        ensures { result ≡ one_place_of self.now digit }
     {
         Mantissa {
             places: self.places.saturating_add(1),

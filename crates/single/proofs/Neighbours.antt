@@ -120,13 +120,6 @@ module _ (num den v w a b j : ℕ) (E : 0 < den) (V : v ≡ num * 2 ^ a) (W : w 
   in_24_bits : (2 ^ 23 ≤ v * 2 ^ j / w) × (v * 2 ^ j / w < 2 ^ 24)
   in_24_bits = let (x, y, z) = widened v w j va vb wa wb J in quotient (v * 2 ^ j) w (omega arith) y z
 
-  pub quotient_fits : v * 2 ^ j % 2 ^ 128 / w < 2 ^ 24
-  quotient_fits = subst (λ t. t / w < 2 ^ 24) (sym whole) in_24_bits.1
-
-  pub rounded_fits : (m : ℕ) → Rounds (v * 2 ^ j % 2 ^ 128 / w) (v * 2 ^ j % 2 ^ 128 % w * 2) w m → m ≤ 2 ^ 24
-  rounded_fits m (inl h) = let e = h.0 in let q = quotient_fits in omega arith
-  rounded_fits m (inr h) = let e = h.0 in let q = quotient_fits in omega arith
-
   pub shifted_nearest : (k m : ℕ) → k + a + j ≡ 149 + b → Rounds (v * 2 ^ j % 2 ^ 128 / w) (v * 2 ^ j % 2 ^ 128 % w * 2) w m → NearestTo num den (k * 2 ^ 23 + m)
   shifted_nearest k m e h =
       let c = 149 - a - j in

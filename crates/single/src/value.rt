@@ -14,7 +14,7 @@ pub enum Number {
 
 impl Number {
     // An integer as it is. A float without its fraction, stopped at the ends of 32 bits; what is no
-    // number gives 0.
+    // number gives 0. A method and no From, since it loses a fraction.
     #[tactic(auto, using(crate::proofs::Cut::integer_of_float))]
     pub fn as_i32(self) -> i32
         ensures { IntegerOfNumber self result }
