@@ -2,6 +2,7 @@
 use Rattle.std.specs.Prelude.{◌≡◌, ℕ, List, Ok, Err, Result}
 use Rattle.definitions.specs.Decoder.{Told, decoded, turned_down, DecodesInto}
 use Rattle.definitions.specs.Sources.{Meaning}
+use Rattle.text.specs.Answers.{Answered}
 use Rattle.text.specs.declared.undecoded.Undecoded.{Undecoded}
 use Rattle.text.specs.declared.undecoded.Undecoded.TheVariants as text
 use Rattle.objects.specs.Refusals.{number_of, fault_of}
@@ -44,5 +45,5 @@ text_of (object.Array a) = Err OtherType
 
 -- an object's text is decoded; one that has none is refused at its start, and the buffer stays
 abbrev pub TextDecodes : {I : Type 0} → (I → Meaning) → List ℕ → ℕ → Result I Reason → Result ℕ Refusal → List ℕ → Type 0
-TextDecodes meaning buffer start (Ok i) r after = DecodesInto buffer (meaning i).to_come start (meaning i).ending (decoder_told r) after
+TextDecodes meaning buffer start (Ok i) r after = Answered decoder_told (DecodesInto buffer (meaning i).to_come start (meaning i).ending) r after
 TextDecodes meaning buffer start (Err why) r after = (r ≡ Err (record { place = start; reason = why })) × (after ≡ buffer)

@@ -1,5 +1,6 @@
-ghost use Rattle.std.specs.Prelude.{◌≡◌, ◌≤◌, length, IfOk};
+ghost use Rattle.std.specs.Prelude.{◌≡◌};
 ghost use Rattle.definitions.specs.Decoder.{DecodesSource, DecodesInto, DecodesHeld};
+ghost use Rattle.text.specs.Answers.{Answered};
 ghost use Rattle.objects.specs.Decoding.{decoder_told, text_of_string, text_of, TextDecodes};
 ghost use Rattle.objects.specs.Objects.{kind_of, kind_number, part_of, string_kind};
 
@@ -10,11 +11,8 @@ use reader::source::Source;
 use text::decode::decode;
 
 // Decodes the bytes to come of a source as literal text; a refusal is at the place that is given.
-// That the count fits in the buffer is a clause of its own here and below: with it a caller cuts the
-// buffer there, and no proof is needed.
 fn decode_at<S: Source>(source: &S, place: u32, buffer: &mut [u8]) -> Result<usize, Refusal>
-    ensures text { DecodesInto buffer.old (S.Source.meaning source.now).to_come place (S.Source.meaning source.now).ending (decoder_told result) buffer.new }
-    ensures room { IfOk result (λ n. n ≤ length buffer.new) }
+    ensures { Answered decoder_told (DecodesInto buffer.old (S.Source.meaning source.now).to_come place (S.Source.meaning source.now).ending) result buffer.new }
 {
     decode(source, buffer).map_err(|why| Refusal {
         place,
@@ -28,8 +26,7 @@ fn decode_held<I: Source>(
     start: u32,
     buffer: &mut [u8],
 ) -> Result<usize, Refusal>
-    ensures text { TextDecodes I.Source.meaning buffer.old start text result buffer.new }
-    ensures room { IfOk result (λ n. n ≤ length buffer.new) }
+    ensures { TextDecodes I.Source.meaning buffer.old start text result buffer.new }
 {
     let inside = text.map_err(|reason| Refusal {
         place: start,
@@ -42,8 +39,7 @@ fn decode_held<I: Source>(
 // many bytes that gives; the bytes past them stay. The source does not move. A refusal, at the place
 // of the source, leaves the whole buffer as it was.
 pub fn decode_into<S: Source>(source: &S, buffer: &mut [u8]) -> Result<usize, Refusal>
-    ensures text { DecodesSource buffer.old (S.Source.meaning source.now) (decoder_told result) buffer.new }
-    ensures room { IfOk result (λ n. n ≤ length buffer.new) }
+    ensures { Answered decoder_told (DecodesSource buffer.old (S.Source.meaning source.now)) result buffer.new }
 {
     decode_at(source, source.place(), buffer)
 }
@@ -60,9 +56,9 @@ impl<I: Source> String<I> {
     }
 
     // Decodes the text inside, as `decode_into` does a source's; a refusal is at the string's start.
+    #[tactic(auto, using(crate::proofs::Decoded::held_string))]
     pub fn decode_into(&self, buffer: &mut [u8]) -> Result<usize, Refusal>
-        ensures text { DecodesHeld buffer.old (kind_number (string_kind self.now.form)) self.now.part.start (I.Source.meaning self.now.part.inside) (decoder_told result) buffer.new }
-        ensures room { IfOk result (λ n. n ≤ length buffer.new) }
+        ensures { Answered decoder_told (DecodesHeld buffer.old (kind_number (string_kind self.now.form)) self.now.part.start (I.Source.meaning self.now.part.inside)) result buffer.new }
     {
         decode_held(self.text(), self.part.start, buffer)
     }
@@ -80,9 +76,9 @@ impl<I: Source> Object<I> {
     }
 
     // Decodes the text of a literal string; any other object is refused, at its start.
+    #[tactic(auto, using(crate::proofs::Decoded::held_object))]
     pub fn decode_into(&self, buffer: &mut [u8]) -> Result<usize, Refusal>
-        ensures text { DecodesHeld buffer.old (kind_number (kind_of self.now)) (part_of self.now).start (I.Source.meaning (part_of self.now).inside) (decoder_told result) buffer.new }
-        ensures room { IfOk result (λ n. n ≤ length buffer.new) }
+        ensures { Answered decoder_told (DecodesHeld buffer.old (kind_number (kind_of self.now)) (part_of self.now).start (I.Source.meaning (part_of self.now).inside)) result buffer.new }
     {
         decode_held(self.text(), self.part().start, buffer)
     }

@@ -10,6 +10,7 @@ pub fn pass_gap<S: Source>(source: &mut S)
     ensures gap { GapPassed (S.Source.meaning source.old) (S.Source.meaning source.new) }
     ensures lies { S.Source.lies source.new ≡ S.Source.lies source.old }
 {
+    // left from the inner match by its label: a rule of the project
     'gap: while let Some(b) = source.peek() {
         match b {
             _ if Class::Blank.contains(b) => source.step(),

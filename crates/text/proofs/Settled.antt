@@ -1,5 +1,5 @@
 -- What the first pass found, and what was written, settle the decoder's answer. Assumes nothing.
-use Rattle.std.proofs.Common.{◌≡◌, ℕ, ◌≤◌, List, ◌++◌, length, drop, Ok, Err, Result, sym, ap, ◌∙◌, subst, subst₂, arith}
+use Rattle.std.proofs.Common.{◌≡◌, ℕ, ◌≤◌, List, ◌++◌, length, drop, Ok, Err, Result, sym, subst, arith, length-append}
 use Rattle.definitions.specs.Decoder.{Told, decoded, DecodesInto, DecodesSource}
 use Rattle.definitions.specs.LiteralText.{decode, paired}
 use Rattle.definitions.specs.Sources.{Ending, Meaning, clean}
@@ -8,7 +8,7 @@ use Rattle.definitions.proofs.DecoderOnce.{decodes_length}
 use Rattle.definitions.proofs.Decoding.{decodes_as, ends_as}
 use Rattle.text.specs.declared.undecoded.Undecoded.{Undecoded}
 use Rattle.text.specs.declared.undecoded.Undecoded.TheVariants.{Fault, LoneBackslash, ShortBuffer}
-use Rattle.text.specs.Answers.{told, Decodable}
+use Rattle.text.specs.Answers.{told, Answered, Decodable}
 
 -- an ending that is known
 ends : {buffer text after : List ℕ} {place : ℕ} {e f : Ending} {t : Told} → e ≡ f → DecodesInto buffer text place f t after → DecodesInto buffer text place e t after
@@ -24,12 +24,12 @@ refused buffer m (Fault f) h = ends h DecodesInto.faulty
 refused buffer m LoneBackslash h = ends h.0 (DecodesInto.backslash (ends_as m.to_come h.1))
 refused buffer m ShortBuffer h = ends h.0 (DecodesInto.too_short (decode m.to_come) (decodes_as m.to_come (t_from (paired m.to_come) h.1)) h.2)
 
-pub turned_down_so : (buffer : List ℕ) (m : Meaning) (r : Result ℕ Undecoded) (why : Undecoded) → r ≡ Err why → Decodable m (length buffer) (Err why) → DecodesSource buffer m (told m.place r) buffer
-turned_down_so buffer m r why e h = rw e (refused buffer m why h)
+pub turned_down_so : (buffer : List ℕ) (m : Meaning) (r : Result ℕ Undecoded) (why : Undecoded) → r ≡ Err why → Decodable m (length buffer) (Err why) → Answered (told m.place) (DecodesSource buffer m) r buffer
+turned_down_so buffer m r why e h = rw e (record { text = refused buffer m why h; room = tt })
 
 -- written
-pub wrote : (buffer after : List ℕ) (m : Meaning) (n : ℕ) → Decodable m (length buffer) (Ok tt) → n ≡ length (decode m.to_come) → after ≡ decode m.to_come ++ drop n buffer → DecodesSource buffer m (decoded n) after
+pub wrote : (buffer after : List ℕ) (m : Meaning) (n : ℕ) → Decodable m (length buffer) (Ok tt) → n ≡ length (decode m.to_come) → after ≡ decode m.to_come ++ drop n buffer → Answered (told m.place) (DecodesSource buffer m) (Ok n) after
 wrote buffer after m n h e k =
     let d = decode m.to_come in
     let x : DecodesInto buffer m.to_come m.place clean (decoded (length d)) (d ++ drop (length d) buffer) = DecodesInto.writes d (decodes_as m.to_come (t_from (paired m.to_come) h.1)) h.2 in
-    ends h.0 (subst₂ (λ c l. DecodesInto buffer m.to_come m.place clean (decoded c) l) (sym e) (sym (k ∙ ap (λ c. d ++ drop c buffer) e)) x)
+    rw (k, e) (record { text = ends h.0 x; room = omega (arith, length-append d (drop (length d) buffer)) })

@@ -1,8 +1,8 @@
-ghost use Rattle.std.specs.Prelude.{◌≡◌, ◌≤◌, ◌∷◌, ◌++◌, length, drop, IfOk};
+ghost use Rattle.std.specs.Prelude.{◌≡◌, ◌≤◌, ◌∷◌, ◌++◌, length, drop};
 ghost use Rattle.std.specs.Iterator.{YieldsFirst, item_count};
 ghost use Rattle.definitions.specs.Decoder.{DecodesSource};
 ghost use Rattle.definitions.specs.LiteralText.{decode as decoded_text};
-ghost use Rattle.text.specs.Answers.{onto, told};
+ghost use Rattle.text.specs.Answers.{onto, told, Answered};
 
 use super::decodable::check;
 use super::escape::escape;
@@ -71,8 +71,7 @@ fn write<S: Source>(source: S, buffer: &mut [u8]) -> usize
 // A refusal leaves the whole buffer as it was.
 #[tactic(auto, using(crate::proofs::Settled::has_room, crate::proofs::Settled::turned_down_so, crate::proofs::Settled::wrote))]
 pub fn decode<S: Source>(source: &S, buffer: &mut [u8]) -> Result<usize, Undecoded>
-    ensures text { DecodesSource buffer.old (S.Source.meaning source.now) (told (S.Source.meaning source.now).place result) buffer.new }
-    ensures room { IfOk result (λ n. n ≤ length buffer.new) }
+    ensures { Answered (told (S.Source.meaning source.now).place) (DecodesSource buffer.old (S.Source.meaning source.now)) result buffer.new }
 {
     check(*source, buffer.len())?;
     Ok(write(*source, buffer))

@@ -3,7 +3,8 @@ ghost use Rattle.text.specs.declared.undecoded.Undecoded.TheVariants.{Fault as A
 
 use reader::source::Fault;
 
-// Why literal text is not decoded. Where is not said: its caller knows where the text stands.
+// Why literal text is not decoded. Where is not said: its caller knows where the text stands. The crate
+// objects, which stands above this one, takes these into its own reasons by From.
 #[derive(Clone, Copy, PartialEq, Eq, Debug)]
 pub enum Undecoded {
     // its source ends in a fault, carried whole

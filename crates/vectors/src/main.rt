@@ -50,7 +50,8 @@ impl fmt::Display for Section {
 }
 
 impl Section {
-    // What a case of this section comes to, in the table's words.
+    // What a case of this section comes to, in the table's words. A table of functions would be no
+    // plainer than the match.
     fn answer(self, heap: Global, given: &str) -> Result<String, AllocError> {
         match self {
             Section::Numbers => numbers::answer(heap, given),
