@@ -38,6 +38,8 @@ fn decode_held<I: Source>(
     decode_at(&inside, start, buffer)
 }
 
+// The three public functions are one decoder: each says where the text is, and its place.
+
 // Decodes all bytes to come of a source, as literal text, to the front of a buffer, and answers how
 // many bytes that gives; the bytes past them stay. The source does not move. A refusal, at the place
 // of the source, leaves the whole buffer as it was.
