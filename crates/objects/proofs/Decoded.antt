@@ -1,23 +1,21 @@
 -- The decoder's answer at another place, and of an object by its kind. Assumes nothing.
-use Rattle.std.proofs.Common.{◌≡◌, ℕ, List, Ok, Err, Result, sym, refl, subst₂}
+use Rattle.std.proofs.Common.{◌≡◌, ℕ, List, Ok, Err, Result, refl, ap}
 use Rattle.std.specs.Result.{MatchResult, IsErrAnd}
 use Rattle.definitions.specs.Decoder.{Told, decoded, turned_down, DecodesInto, DecodesHeld}
 use Rattle.definitions.specs.PlainReader.{Accepts, parse_string}
-use Rattle.definitions.specs.Sources.{Ending, Meaning}
-use Rattle.definitions.proofs.Total.{accepts_so}
+use Rattle.definitions.specs.Sources.{Ending, clean, Meaning}
 use Rattle.text.specs.Answers.{told}
 use Rattle.text.specs.declared.undecoded.Undecoded.{Undecoded}
 use Rattle.text.specs.declared.undecoded.Undecoded.TheVariants as undecoded
-use Rattle.objects.specs.Decoding.{reason_of, decoder_told, text_of_form, text_of, TextDecodes}
-use Rattle.objects.specs.Objects.{kind_number, name_kind, string_kind, kind_of, part_of}
-use Rattle.objects.proofs.Accepted.{named, passed_by}
-use Rattle.objects.specs.declared.error.Reason.{Reason}
-use Rattle.objects.specs.declared.error.Reason.TheVariants.{OtherType, Unsupported}
+use Rattle.objects.specs.Decoding.{reason_of, decoder_told}
+use Rattle.objects.specs.Objects.{kind_number, string_kind, kind_of, part_of}
 use Rattle.objects.specs.declared.error.Refusal.{Refusal}
 use Rattle.objects.specs.declared.object.Object.{Object}
 use Rattle.objects.specs.declared.object.Object.TheVariants.{Integer, Real, Name, String, Array}
 use Rattle.objects.specs.declared.string.Form.{Form}
 use Rattle.objects.specs.declared.string.Form.TheVariants.{Literal, Hex, Ascii85}
+use Rattle.objects.specs.declared.string.String as StringOf
+use Rattle.objects.proofs.Accepted.{named, passed_by}
 
 -- the same answer, at another place
 abbrev at_place : ℕ → Told → Told
@@ -43,23 +41,18 @@ module _ {buffer text after : List ℕ} {p : ℕ} {e : Ending} (q : ℕ) where
   placed (Err why) (Ok n) x m f = absurd m
   placed (Err why) (Err y) x m f = rw (f why y m) (turned why x)
 
--- a string, by its form; an object
-abbrev Held : {I : Type 0} → (I → Meaning) → List ℕ → ℕ → ℕ → I → Result ℕ Refusal → List ℕ → Type 0
-Held meaning buffer kind start i r after = DecodesHeld buffer kind start (meaning i) (decoder_told r) after
+-- a literal string is decoded as its text; any other string, and any other object, is refused at its start
+pub literal_held : {buffer after : List ℕ} {start : ℕ} {inside : Meaning} {t : Told} (f : Form) → f ≡ Literal → DecodesInto buffer inside.to_come start inside.ending t after → DecodesHeld buffer (kind_number (string_kind f)) start inside t after
+literal_held f e x = DecodesHeld.literal (ap (λ g. kind_number (string_kind g)) e) x
 
-refused : {I : Type 0} (meaning : I → Meaning) {buffer after : List ℕ} (kind start : ℕ) (i : I) (why : Reason) {r : Result ℕ Refusal} → (r ≡ Err (record { place = start; reason = why })) × (after ≡ buffer)
-    → Held meaning buffer kind start i (Err (record { place = start; reason = why })) buffer → Held meaning buffer kind start i r after
-refused meaning {buffer} kind start i why (e, k) x = subst₂ (Held meaning buffer kind start i) (sym e) (sym k) x
+pub encoded_held : {buffer : List ℕ} {start : ℕ} {inside : Meaning} (f : Form) → (f ≡ Literal → ⊥) → DecodesHeld buffer (kind_number (string_kind f)) start inside (turned_down 6 start clean) buffer
+encoded_held Literal n = absurd (n refl)
+encoded_held Hex n = DecodesHeld.encoded Accepts.hex_strings (λ e. cc)
+encoded_held Ascii85 n = DecodesHeld.encoded Accepts.ascii85_strings (λ e. cc)
 
-pub held_string : {I : Type 0} (meaning : I → Meaning) (buffer after : List ℕ) (start : ℕ) (f : Form) (i : I) (r : Result ℕ Refusal) → TextDecodes meaning buffer start (text_of_form f i) r after → Held meaning buffer (kind_number (string_kind f)) start i r after
-held_string meaning buffer after start Literal i r x = DecodesHeld.literal refl x
-held_string meaning buffer after start Hex i r x = refused meaning 6 start i Unsupported x (DecodesHeld.encoded Accepts.hex_strings (λ e. cc))
-held_string meaning buffer after start Ascii85 i r x = refused meaning 7 start i Unsupported x (DecodesHeld.encoded Accepts.ascii85_strings (λ e. cc))
-
-pub held_object : {I : Type 0} (meaning : I → Meaning) (buffer after : List ℕ) (o : Object I) (r : Result ℕ Refusal) → TextDecodes meaning buffer (part_of o).start (text_of o) r after
-    → Held meaning buffer (kind_number (kind_of o)) (part_of o).start (part_of o).inside r after
-held_object meaning buffer after (Integer p n) r x = refused meaning 1 p.start p.inside OtherType x (DecodesHeld.other_type accepts_so)
-held_object meaning buffer after (Real p d) r x = refused meaning 2 p.start p.inside OtherType x (DecodesHeld.other_type accepts_so)
-held_object meaning buffer after (Name n) r x = refused meaning (kind_number (name_kind n.literal)) n.part.start n.part.inside OtherType x (DecodesHeld.other_type (passed_by (named n.literal parse_string)))
-held_object meaning buffer after (String s) r x = held_string meaning buffer after s.part.start s.form s.part.inside r x
-held_object meaning buffer after (Array a) r x = refused meaning 8 a.part.start a.part.inside OtherType x (DecodesHeld.other_type accepts_so)
+pub other_held : {I : Type 0} {buffer : List ℕ} {inside : Meaning} (o : Object I) → ((s : StringOf.String I) → o ≡ String s → ⊥) → DecodesHeld buffer (kind_number (kind_of o)) (part_of o).start inside (turned_down 4 (part_of o).start clean) buffer
+other_held (String x) n = absurd (n x refl)
+other_held (Integer p k) n = DecodesHeld.other_type (passed_by refl)
+other_held (Real p d) n = DecodesHeld.other_type (passed_by refl)
+other_held (Name k) n = DecodesHeld.other_type (passed_by (named k.literal parse_string))
+other_held (Array a) n = DecodesHeld.other_type (passed_by refl)
