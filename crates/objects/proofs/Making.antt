@@ -1,10 +1,12 @@
 -- What the typed parsers of names, strings and arrays make of an object. Assumes nothing.
-use Rattle.std.proofs.Common.{◌≡◌, true, false, T, sym, refl, ap, ◌∙◌, subst}
-use Rattle.definitions.specs.PlainReader.{Parser, parse_number, parse_name, parse_string, parse_array, Accepts, accepts, Handed, object, refusal, Judges, hands_over, other_type}
+use Rattle.std.proofs.Common.{◌≡◌, true, false, T, Result, sym, refl, ap, ◌∙◌, subst}
+use Rattle.definitions.specs.PlainReader.{Parser, parse_number, parse_name, parse_string, parse_array, Accepts, accepts, Handed, handed, object, refusal, Judges, hands_over, other_type}
+use Rattle.definitions.specs.Grammar.{Shown}
 use Rattle.definitions.specs.Sources.{Meaning, clean}
 use Rattle.definitions.proofs.Total.{so_accepts}
 use Rattle.objects.specs.Answers.{told, held, name_in, string_in, array_in, Judged}
 use Rattle.objects.specs.Objects.{kind_number, kind_of, part_of, as_handed}
+use Rattle.objects.specs.declared.error.Refusal.{Refusal}
 use Rattle.objects.specs.declared.object.Object.{Object}
 use Rattle.objects.specs.declared.object.Object.TheVariants.{Integer, Real, Name, String, Array}
 use Rattle.objects.proofs.Accepted.{named, stringed, passed_by}
@@ -38,3 +40,8 @@ module _ {I : Type 0} (meaning : I → Meaning) where
   array_judged (Integer p n) = leaves parse_array (Integer p n) refl
   array_judged (Real p d) = leaves parse_array (Real p d) refl
   array_judged (Array a) = takes parse_array (Array a) (λ e. cc) refl
+
+  -- what a function answers that takes an object so
+  pub given : {T : Type 0} (p : Parser) (case : T → Object I) (take : Object I → Result T Refusal) → ((x : Object I) → Judged meaning p x (told (held meaning case) (take x)))
+      → (x : Object I) (r : Result T Refusal) → r ≡ take x → (o : Shown) → handed (part_of x).start o ≡ as_handed meaning x → Judges p (part_of x).start o (told (held meaning case) r)
+  given p case take f x r e = rw e (f x)

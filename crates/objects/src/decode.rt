@@ -1,7 +1,6 @@
-ghost use Rattle.std.specs.Prelude.{◌≡◌};
 ghost use Rattle.definitions.specs.Decoder.{DecodesSource, DecodesInto, DecodesHeld};
 ghost use Rattle.text.specs.Answers.{Answered};
-ghost use Rattle.objects.specs.Decoding.{decoder_told, text_of_string, text_of, TextDecodes};
+ghost use Rattle.objects.specs.Decoding.{decoder_told};
 ghost use Rattle.objects.specs.Objects.{kind_of, kind_number, part_of, string_kind};
 
 use super::error::{Reason, Refusal};
@@ -20,20 +19,7 @@ fn decode_at<S: Source>(source: &S, place: u32, buffer: &mut [u8]) -> Result<usi
     })
 }
 
-// The same of an object's text, or the refusal of an object that has none.
-fn decode_held<I: Source>(
-    text: Result<I, Reason>,
-    start: u32,
-    buffer: &mut [u8],
-) -> Result<usize, Refusal>
-    ensures { TextDecodes I.Source.meaning buffer.old start text result buffer.new }
-{
-    let inside = text.map_err(|reason| Refusal {
-        place: start,
-        reason,
-    })?;
-    decode_at(&inside, start, buffer)
-}
+// The three public functions are one decoder: each says where the text is, and its place.
 
 // Decodes all bytes to come of a source, as literal text, to the front of a buffer, and answers how
 // many bytes that gives; the bytes past them stay. The source does not move. A refusal, at the place
@@ -45,41 +31,31 @@ pub fn decode_into<S: Source>(source: &S, buffer: &mut [u8]) -> Result<usize, Re
 }
 
 impl<I: Source> String<I> {
-    // The text inside; a hex or ASCII85 string has none.
-    fn text(&self) -> Result<I, Reason>
-        ensures { result ≡ text_of_string self.now }
-    {
-        match self.form {
-            Form::Literal => Ok(self.part.inside),
-            _ => Err(Reason::Unsupported),
-        }
-    }
-
-    // Decodes the text inside, as `decode_into` does a source's; a refusal is at the string's start.
-    #[tactic(auto, using(crate::proofs::Decoded::held_string))]
+    // Decodes the text inside, as `decode_into` does a source's; a hex or ASCII85 string has none. A
+    // refusal is at the string's start.
+    #[tactic(auto, using(crate::proofs::Decoded::literal_held, crate::proofs::Decoded::encoded_held))]
     pub fn decode_into(&self, buffer: &mut [u8]) -> Result<usize, Refusal>
         ensures { Answered decoder_told (DecodesHeld buffer.old (kind_number (string_kind self.now.form)) self.now.part.start (I.Source.meaning self.now.part.inside)) result buffer.new }
     {
-        decode_held(self.text(), self.part.start, buffer)
+        match self.form {
+            Form::Literal => decode_at(&self.part.inside, self.part.start, buffer),
+            _ => Err(Refusal {
+                place: self.part.start,
+                reason: Reason::Unsupported,
+            }),
+        }
     }
 }
 
 impl<I: Source> Object<I> {
-    // The text of a string; an object of another type has none.
-    fn text(&self) -> Result<I, Reason>
-        ensures { result ≡ text_of self.now }
-    {
-        match self {
-            Object::String(string) => string.text(),
-            _ => Err(Reason::OtherType),
-        }
-    }
-
     // Decodes the text of a literal string; any other object is refused, at its start.
-    #[tactic(auto, using(crate::proofs::Decoded::held_object))]
+    #[tactic(auto, using(crate::proofs::Decoded::other_held))]
     pub fn decode_into(&self, buffer: &mut [u8]) -> Result<usize, Refusal>
         ensures { Answered decoder_told (DecodesHeld buffer.old (kind_number (kind_of self.now)) (part_of self.now).start (I.Source.meaning (part_of self.now).inside)) result buffer.new }
     {
-        decode_held(self.text(), self.part().start, buffer)
+        let Object::String(string) = self else {
+            return Err(self.refused(Reason::OtherType));
+        };
+        string.decode_into(buffer)
     }
 }

@@ -8,6 +8,7 @@ use super::part::Part;
 #[derive(Clone, Copy)]
 pub struct Name<I> {
     pub part: Part<I>,
+    // A flag and no enum: it is one question, and `is_literal` answers it.
     pub literal: bool,
 }
 

@@ -49,7 +49,7 @@ impl<I: Copy> Object<I> {
     }
 
     // Why a caller who asked for another object is refused: at this object's start.
-    fn refused(&self, reason: Reason) -> Refusal
+    pub(crate) fn refused(&self, reason: Reason) -> Refusal
         ensures { result ≡ refused_by reason self.now }
     {
         Refusal {

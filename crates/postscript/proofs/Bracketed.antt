@@ -1,6 +1,7 @@
 -- Strings and arrays: what a skip found is what stands after the gap. Assumes nothing.
-use Rattle.std.proofs.Common.{◌≡◌, ℕ, zero, suc, ◌+◌, ◌-◌, ◌≤◌, eqb, List, [], ◌∷◌, ◌++◌, length, take, drop, Some, Ok, Err, Option, Result, sym, refl, ap, ◌∙◌, subst, add-zero, arith, length-append, length-take}
-use Rattle.std.proofs.lemmas.List.{take-append-drop}
+use Rattle.std.proofs.Common.{◌≡◌, ℕ, zero, suc, ◌+◌, ◌-◌, ◌≤◌, eqb, List, [], ◌∷◌, ◌++◌, length, take, drop, Some, Ok, Err, Option, Result, sym, refl, ap, ◌∙◌, subst, add-zero, arith, length-append}
+use Rattle.std.proofs.Math.Seq.{take-append-add}
+use Rattle.std.proofs.lemmas.List.{take-append-drop, length-take-le}
 use Rattle.definitions.specs.Grammar.{none, an_object, HexHead}
 use Rattle.definitions.specs.Moves.{first, rest, pace, stepped, Moved}
 use Rattle.definitions.specs.Outcomes.{outcome, of_opener, before as bytes_before, shown, shown_of, chop}
@@ -21,13 +22,6 @@ use Rattle.objects.specs.declared.part.Part.{Part}
 use Rattle.objects.specs.declared.string.Form.{Form}
 use Rattle.objects.specs.declared.string.Form.TheVariants.{Literal, Hex, Ascii85}
 use Rattle.postscript.proofs.Taking.{took, left_open, chop_take}
-
-take_past : (xs ys : List ℕ) (n : ℕ) → take (length xs + n) (xs ++ ys) ≡ xs ++ take n ys
-take_past [] ys n = let e : 0 + n ≡ n = omega arith in ap (λ k. take k ys) e
-take_past (x ∷ xs) ys n = let e : suc (length xs) + n ≡ suc (length xs + n) = omega arith in ap (λ k. take k (x ∷ (xs ++ ys))) e ∙ ap (λ l. x ∷ l) (take_past xs ys n)
-
-all_taken : (n : ℕ) (xs : List ℕ) → n ≤ length xs → length (take n xs) ≡ n
-all_taken n xs h = simp length-take (omega arith)
 
 -- a source behind its next bytes
 rest_drop : (n : ℕ) (bs : List ℕ) → rest (drop n bs) ≡ drop (suc n) bs
@@ -80,11 +74,11 @@ module _ {I : Type 0} (meaning : I → Meaning) (lies : I → Option Address) (s
       let cut : ops ++ r ≡ m.to_come = take-append-drop width m.to_come in
       let all : length m.to_come ≡ length ops + length r = sym (ap length cut) ∙ length-append ops r in
       let n : length m.to_come - length now.to_come ≡ length ops + (width + c) = omega arith in
-      let whole : bytes_before m.to_come now.to_come ≡ ops ++ take (width + c) r = ap (λ k. take k m.to_come) n ∙ ap (take (length ops + (width + c))) (sym cut) ∙ take_past ops r (width + c) in
+      let whole : bytes_before m.to_come now.to_come ≡ ops ++ take (width + c) r = ap (λ k. take k m.to_come) n ∙ ap (take (length ops + (width + c))) (sym cut) ∙ take-append-add ops r (width + c) in
       let o = shown kind (ops ++ take (width + c) r) (take c r) in
       let h : outcome m.to_come m.ending ≡ an_object o now.to_come =
       comes_to (closed now.to_come) (s.finds 0 ∙ top now.to_come) ∙ ap (λ l. an_object (shown_of l) now.to_come) whole ∙ ap (λ t. an_object t now.to_come) (k.shows c (width + c) refl (omega arith)) in
-      let long : length (ops ++ take (width + c) r) ≡ length ops + (width + c) = length-append ops (take (width + c) r) ∙ ap (λ k. length ops + k) (all_taken (width + c) r (omega arith)) in
+      let long : length (ops ++ take (width + c) r) ≡ length ops + (width + c) = length-append ops (take (width + c) r) ∙ ap (λ k. length ops + k) (length-take-le (width + c) r (omega arith)) in
       took meaning lies x o m (behind width m) now home width c (subst (Between meaning lies m.place (behind width m) now home width) (sym e) b) refl (omega arith) t v refl
       (omega (arith, s.closes, long)) s.moved.ending (ap (λ k. m.place + k) (sym k.opener)) h
 

@@ -107,6 +107,7 @@ fn width(form: Form) -> u32
     }
 }
 
+// Which skip, the form says: a closure would be passed beside the form, which the object keeps anyway.
 fn skip_string<S: Source>(source: &mut S, form: Form) -> Result<(), Open>
     ensures skips { Skipped (scan_of form) (width_of form) result (S.Source.meaning source.old) (S.Source.meaning source.new) }
     ensures lies { S.Source.lies source.new ≡ S.Source.lies source.old }

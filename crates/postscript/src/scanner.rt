@@ -76,6 +76,8 @@ impl<S: Windowed> Scanner<S> {
         T::of(&object)
     }
 
+    // The typed parsers are `parse`, each under the plain reader's name.
+
     // The number after the gap. An object that is none is passed, and refused at its start.
     pub fn parse_number(&mut self) -> Result<Number, Refusal>
         ensures turn { (ps : List Piece) × Turn (S.Source.meaning self.old) (parses parse_number) (number_answered result) ps (S.Source.meaning self.new) }
