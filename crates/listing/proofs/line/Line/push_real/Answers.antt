@@ -2,7 +2,22 @@ use Rattle.std.proofs.Common.{◌≡◌, ℕ, ◌+◌, ◌≤◌, length, ap, �
 use Rattle.definitions.proofs.Listing.{decimal_length, minus_length}
 use Rattle.listing.proofs.Texts.{exponent_length}
 use Rattle.listing.proofs.line.Line.push_real.Goals as goal
-use Rattle.listing.proofs.line.Line.push_real.Goals.{After-from}
+use Rattle.listing.proofs.line.Line.push_real.Goals.{After-push_decimal, After-from}
+
+pub push_decimal-requires : goal.push_decimal-requires
+push_decimal-requires c =
+    let d = c.args.d.now in
+    rw c.c.ensures (omega (arith, length-append {A = ℕ}, ap length c.push_minus.ensures, minus_length c.is_negative.result, decimal_length 17 d.c d.digits))
+
+-- the room that the minus and c take
+front : (c : After-push_decimal) → length c.push_decimal.new.self ≤ length c.args.self.now + 19
+front c =
+    let d = c.args.d.now in
+    let e = rw c.c.ensures at c.push_decimal.ensures in
+    omega (arith, length-append {A = ℕ}, ap length c.push_minus.ensures, ap length e, minus_length c.is_negative.result, decimal_length 17 d.c d.digits)
+
+pub push-requires : goal.push-requires
+push-requires c = omega (arith, front (goal.at.push-requires c).After-push_decimal)
 
 -- the exponent that is written is the decimal's
 exponent : (c : After-from) → to_z w64 (of_z w64 c.from.result) ≡ c.args.d.now.k
@@ -11,19 +26,14 @@ exponent c =
     let s : SFits w8 c.k.result = search rules in
     to_z-of_z f ∙ c.from.ensures ∙ to_z-of_z s ∙ c.k.ensures
 
--- how much room is taken in front of it
-before : (c : After-from) → length c.push.new.self ≤ length c.args.self.now + 20
-before c =
-    let d = c.args.d.now in
-    let e = rw c.c.ensures at c.push_decimal.ensures in
-    omega (arith, length-append {A = ℕ}, ap length c.push_minus.ensures, ap length e, ap length c.push.ensures, minus_length c.is_negative.result, decimal_length 17 d.c d.digits)
-
 pub push_signed-requires : goal.push_signed-requires
-push_signed-requires c = let d = c.args.d.now in rw (exponent c) (omega (arith, before c, exponent_length d.k d.low d.high))
+push_signed-requires c =
+    let d = c.args.d.now in
+    rw (exponent c) (omega (arith, length-append {A = ℕ}, ap length c.push.ensures, front (goal.at.push_signed-requires c).After-push_decimal, exponent_length d.k d.low d.high))
 
 pub returns-clause-short : goal.returns-clause-short
 returns-clause-short c =
     let d = c.args.d.now in
-    let b = (goal.at.returns-clause-short c).After-from in
-    let e = rw (exponent b) at c.push_signed.ensures in
-    omega (arith, length-append {A = ℕ}, ap length e, before b, exponent_length d.k d.low d.high)
+    let p = goal.at.returns-clause-short c in
+    let e = rw (exponent p.After-from) at c.push_signed.ensures in
+    omega (arith, length-append {A = ℕ}, ap length c.push.ensures, ap length e, front p.After-push_decimal, exponent_length d.k d.low d.high)
