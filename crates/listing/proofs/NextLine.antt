@@ -29,13 +29,13 @@ look_fewer (Turn.looks {g = g} {bs = bs} p) = omega (arith, ap length p.cut, len
 
 took_fewer : {s t : Meaning} {a : Answer} {ps : List Piece} {call : Call} (h : Handed) → Turn s call a ps t → a ≡ object h → length t.to_come < length s.to_come
 took_fewer h (Turn.takes {g = g} {bs = bs} {rest = rest} {o = o} p b j) e = omega (arith, ap length p.cut, length-append g bs, ap length (begins_whole b), length-append o.whole rest, begins_long b)
-took_fewer h (Turn.refuses p r) e = let z : ◌≡◌ {A = ℕ} 0 1 = cc in absurd (omega arith)
-took_fewer h (Turn.looks p) e = let z : ◌≡◌ {A = ℕ} 0 1 = cc in absurd (omega arith)
+took_fewer h (Turn.refuses p r) e = absurd (cc)
+took_fewer h (Turn.looks p) e = absurd (cc)
 
 module _ {I : Type 0} (meaning : I → Meaning) where
   pub next_fewer : (e : Entry I) (s t : Meaning) → ComesNext meaning s t e → ends_with e ≡ false → length t.to_come < length s.to_come
-  next_fewer (End p) s t x h = let z : ◌≡◌ {A = ℕ} 0 1 = cc in absurd (omega arith)
-  next_fewer (Refused r) s t x h = let z : ◌≡◌ {A = ℕ} 0 1 = cc in absurd (omega arith)
+  next_fewer (End p) s t x h = absurd (cc)
+  next_fewer (Refused r) s t x h = absurd (cc)
   next_fewer (Object o) s t (u, ps, qs, x, y) h = omega (arith, look_fewer x, took_fewer (as_handed meaning o) y refl)
 
   pub next_line : (e : Entry I) (s t : Meaning) (buffer after : List ℕ) (n : ℕ) (last : Bool) → ComesNext meaning s t e → WritesLine buffer (line_of meaning e) (decoded n) after → n ≤ length after → last ≡ ends_with e → ListedLine buffer after s t n last

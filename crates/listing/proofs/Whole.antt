@@ -6,7 +6,7 @@ use Rattle.definitions.specs.Sources.{Meaning}
 use Rattle.listing.specs.Entries.{ComesNext, ends_with, line_of, ListedUpTo, ends, refuses, goes_on}
 use Rattle.listing.specs.declared.entry.Entry.{Entry}
 use Rattle.listing.specs.declared.entry.Entry.TheVariants.{Object, Refused, End}
-use Rattle.listing.proofs.NextLine.{next_listing}
+use Rattle.listing.proofs.NextLine.{next_listing, next_fewer}
 
 -- a writer and a source from which the rest of a listing leads to the whole of it
 pub record LeadsOn (contents : Option (List ℕ)) (s : Meaning) (now : Option (List ℕ)) (t : Meaning) : Type 0 where
@@ -47,3 +47,6 @@ module _ {I : Type 0} (meaning : I → Meaning) where
 
     pub stands_there : (e : Entry I) (u : Meaning) → ComesNext meaning t u e → ends_with e ≡ true → ListedUpTo s u
     stands_there e u x h = leads.stands u (at_last e t u x h)
+
+-- what a loop over the lines needs, one after another
+pub ruleset line_by_line = (next_fewer, at_first, one_more_line, whole_text, stands_there)

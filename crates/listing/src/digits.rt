@@ -5,6 +5,7 @@ ghost use Rattle.definitions.specs.Listing.{decimal};
 // edits that the prover must refuse turns them.
 
 // How many decimal digits a number has.
+#[tactic(auto, using(crate::proofs::Decimals::digits_by_power))]
 pub(crate) fn digit_count(n: u64) -> usize
     ensures { result ≡ length (decimal n) }
 {

@@ -1,5 +1,4 @@
-ghost use Rattle.std.specs.Prelude.{◌≡◌, ℕ, ◌+◌, ◌<◌, ◌≤◌, true, [], ◌∷◌, ◌++◌, length};
-ghost use Rattle.definitions.specs.Bytes.{comma, small_e};
+ghost use Rattle.std.specs.Prelude.{◌≡◌, ◌+◌, ◌≤◌, true, [], ◌++◌, length};
 ghost use Rattle.definitions.specs.Decoder.{decoded};
 ghost use Rattle.definitions.specs.Grammar.{real_value};
 ghost use Rattle.definitions.specs.Listing.{decimal, signed_decimal, minus_if, value_text, line, WritesLine};
@@ -58,6 +57,7 @@ impl Line {
         }
     }
 
+    // Each push asks for the room of what it pushes, which differs, so no invariant says it.
     fn push(&mut self, text: &[u8])
         requires { length self.old + length text.now ≤ 48 }
         ensures { self.new ≡ self.old ++ text.now }

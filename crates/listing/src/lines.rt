@@ -1,3 +1,5 @@
+#![tactic(auto, using(crate::proofs::Texts::refused_short, std::proofs::lemmas::Result::err_from_is_err_and))]
+
 ghost use Rattle.std.specs.Prelude.{◌≡◌, ◌≤◌, length, IfOk, IfErr, OnOk, OnErr, ◌<◌};
 ghost use Rattle.definitions.specs.Listing.{WritesLine};
 ghost use Rattle.objects.specs.Decoding.{decoder_told};

@@ -1,4 +1,4 @@
-ghost use Rattle.std.specs.Prelude.{◌≡◌, OnOk};
+ghost use Rattle.std.specs.Prelude.{OnOk};
 ghost use Rattle.std.specs.Io.KnownBytes.{Appends};
 ghost use Rattle.definitions.specs.Listing.{listing};
 ghost use Rattle.listing.specs.Entries.{ComesNext, ListsNext, ListedUpTo};
@@ -27,6 +27,7 @@ fn next_entry<S: Windowed>(scanner: &mut Scanner<S>) -> Entry<S::Inside>
 
 // Writes the next line of a listing: it calls at_end, then, on a no, parse_object. A listing ends
 // after a refusal, and on a yes. A short buffer is refused, and nothing moves.
+#[tactic(auto, using(crate::proofs::NextLine::next_line))]
 pub fn list_next<S: Windowed>(
     scanner: &mut Scanner<S>,
     buffer: &mut [u8],
@@ -41,6 +42,7 @@ pub fn list_next<S: Windowed>(
 }
 
 // Writes the whole listing, one write for each line, and stops at the first write that fails.
+#[tactic(auto, using(crate::proofs::Whole::line_by_line))]
 pub fn write_listing<S: Windowed, W: Write>(
     scanner: &mut Scanner<S>,
     output: &mut W,

@@ -3,7 +3,20 @@ use Rattle.definitions.specs.Listing.{signed_decimal}
 use Rattle.definitions.proofs.Listing.{decimal_length, minus_length}
 use Rattle.listing.proofs.Texts.{exponent_length}
 use Rattle.listing.proofs.line.Line.push_real.Goals as goal
-use Rattle.listing.proofs.line.Line.push_real.Goals.{After-from}
+use Rattle.listing.proofs.line.Line.push_real.Goals.{After-push_decimal, After-from}
+
+pub push_decimal-requires : goal.push_decimal-requires
+push_decimal-requires c =
+    rw c.c.ensures.value (omega (arith, length-append {A = ℕ}, ap length c.push_minus.ensures, minus_length c.is_negative.result, decimal_length 17 c.args.d.now.c (rw c.c.ensures.value at c.c.ensures.limit)))
+
+-- the room that the minus and c take
+front : (c : After-push_decimal) → length c.push_decimal.new.self ≤ length c.args.self.now + 19
+front c =
+    let e = rw c.c.ensures.value at c.push_decimal.ensures in
+    omega (arith, length-append {A = ℕ}, ap length c.push_minus.ensures, ap length e, minus_length c.is_negative.result, decimal_length 17 c.args.d.now.c (rw c.c.ensures.value at c.c.ensures.limit))
+
+pub push-requires : goal.push-requires
+push-requires c = omega (arith, front (goal.at.push-requires c).After-push_decimal)
 
 -- the exponent that is written is the decimal's
 exponent : (c : After-from) → to_z w64 (of_z w64 c.from.result) ≡ c.args.d.now.k
@@ -16,18 +29,12 @@ exponent c =
 exponent_fits : (c : After-from) → length (signed_decimal c.args.d.now.k) ≤ 3
 exponent_fits c = exponent_length c.args.d.now.k (rw c.k.ensures.value at c.k.ensures.low) (rw c.k.ensures.value at c.k.ensures.high)
 
--- how much room is taken in front of it
-before : (c : After-from) → length c.push.new.self ≤ length c.args.self.now + 20
-before c =
-    let d = c.args.d.now in
-    let e = rw c.c.ensures.value at c.push_decimal.ensures in
-    omega (arith, length-append {A = ℕ}, ap length c.push_minus.ensures, ap length e, ap length c.push.ensures, minus_length c.is_negative.result, decimal_length 17 d.c (rw c.c.ensures.value at c.c.ensures.limit))
-
 pub push_signed-requires : goal.push_signed-requires
-push_signed-requires c = rw (exponent c) (omega (arith, before c, exponent_fits c))
+push_signed-requires c =
+    rw (exponent c) (omega (arith, length-append {A = ℕ}, ap length c.push.ensures, front (goal.at.push_signed-requires c).After-push_decimal, exponent_fits c))
 
 pub returns-clause-short : goal.returns-clause-short
 returns-clause-short c =
-    let b = (goal.at.returns-clause-short c).After-from in
-    let e = rw (exponent b) at c.push_signed.ensures in
-    omega (arith, length-append {A = ℕ}, ap length e, before b, exponent_fits b)
+    let p = goal.at.returns-clause-short c in
+    let e = rw (exponent p.After-from) at c.push_signed.ensures in
+    omega (arith, length-append {A = ℕ}, ap length c.push.ensures, ap length e, front p.After-push_decimal, exponent_fits p.After-from)
