@@ -4,7 +4,8 @@ ghost use Rattle.listing.specs.Entries.{ends_with};
 use objects::error::Refusal;
 use objects::object::Object;
 
-// What one line of a listing tells of: an object, a refusal, or the end and its place.
+// What one line of a listing tells of: an object, a refusal, or the end and its place. Each has a line
+// of its own, so it is an enum of the three and no Result of an Option.
 #[derive(Clone, Copy)]
 pub enum Entry<I> {
     Object(Object<I>),

@@ -13,7 +13,8 @@ use super::state::{MOST_BITS, State};
 use reader::class::{ByteClass, Class, pass};
 use reader::source::Source;
 
-// What a run of regular bytes is.
+// What a run of regular bytes is. An enum of its own and no Result: every run is one of the four, and
+// neither a name nor a number past its limits is a failure of the reading.
 #[derive(Clone, Copy, PartialEq, Eq, Debug)]
 pub enum Reading {
     Integer(i32),

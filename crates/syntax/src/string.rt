@@ -11,6 +11,7 @@ pub fn skip_literal<S: Source>(source: &mut S) -> Result<(), Open>
     ensures skips { Skipped (λ d. text d 0) 1 result (S.Source.meaning source.old) (S.Source.meaning source.new) }
     ensures lies { S.Source.lies source.new ≡ S.Source.lies source.old }
 {
+    // how many ( are open inside: it stands for a recursion
     let mut depth: u32 = 0;
     while let Some(b) = source.peek() {
         source.step();
