@@ -1,4 +1,4 @@
--- The layers by their recursive form say what a test of the lengths would say, and stay within the limit. Assumes nothing.
+-- A layer by its recursive form says what a test of the lengths would say; the limit of the encrypted layer; what passing a class passes. Assumes nothing.
 use Rattle.std.proofs.Common.{◌≡◌, ℕ, zero, suc, Bool, cond, leb, List, [], ◌∷◌, length, sym, refl, ap, ◌∙◌, arith, length-drop}
 use lib.Dec.{leb-zero, leb-suc-zero, leb-suc-suc}
 use Rattle.definitions.specs.Bytes.{front}

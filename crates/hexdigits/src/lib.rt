@@ -1,4 +1,5 @@
-// Bytes as the tables of cases write them: two hexadecimal digits each.
+// Bytes as the tables of cases write them: two hexadecimal digits each. Not by the kit's `hex`, whose
+// decoder refuses a digit alone or a byte that is none, and whose code no edit could turn.
 #![tactic(auto)]
 
 ghost use Rattle.std.specs.Prelude.{◌≡◌, IfOk, string_bytes};

@@ -15,22 +15,20 @@ use objects::object::Object;
 use reader::source::Source;
 use std::marker::Model;
 
-// How many bytes a source has to come. An iterator over a source, of which only the count would be
-// asked, is longer than this loop.
+// How many bytes a source has to come.
 fn count<S: Source>(source: S) -> u32
     ensures { result ≡ length (S.Source.meaning source).to_come }
 {
     let mut left = source;
-    let mut count = 0;
     while left.peek().is_some() {
         left.step();
-        count += 1;
     }
-    count
+    left.place() - source.place()
 }
 
 // A line as it grows: its text so far. The bytes lie in an array, since there is no heap. It is not
-// printed by a `Display`, whose writes may fail, while a line always has room.
+// printed by a `Display`, nor kept in the kit's `ArrayVec`: their writes may fail, while a line always
+// has room.
 #[derive(Drop)]
 pub struct Line {
     bytes: [u8; LONGEST],

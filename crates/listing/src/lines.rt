@@ -33,7 +33,9 @@ pub(crate) fn check_room(buffer: &[u8]) -> Result<(), Refusal>
     }
 }
 
-// Writes the line of a refusal to the front of a buffer, as `write_line` does.
+// Writes the line of a refusal to the front of a buffer, as `write_line` does. Both are `check_room` and
+// `copy_to`, each with its line: a refusal alone has no source, so it is no entry. That the length is
+// within the buffer is said in the words of the decoder's record, which stands in a crate below.
 pub fn write_refusal(refusal: &Refusal, buffer: &mut [u8]) -> Result<usize, Refusal>
     ensures line { WritesLine buffer.old (refusal_line «refusal».now) (decoder_told result) buffer.new }
     ensures room { IfOk result (λ n. n ≤ length buffer.new) }

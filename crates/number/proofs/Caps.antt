@@ -8,7 +8,7 @@ use Rattle.std.proofs.lemmas.Bool.{cases_lt, le-ltb, lt-leb, and_left, and_right
 use Rattle.definitions.specs.Numbers.{signed, settled, Reading, integer, real, past_limits}
 use Rattle.definitions.specs.Readings.{fits_test, decimal_test, radix_reading, real_reading}
 
--- what tells no number from the cap on apart from the cap
+-- a function that cannot tell the numbers past a cap from the cap
 pub held : {A : Type 0} (f : ℕ → A) (most n : ℕ) → (most ≤ n → f most ≡ f n) → f (min n most) ≡ f n
 held f most n h = step (cases_lt n most)
   where

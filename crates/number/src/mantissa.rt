@@ -30,7 +30,8 @@ pub struct Mantissa {
     pub places: u32,
 }
 
-// What stands after an e.
+// What stands after an e. A type of its own, with a cap of its own: a mantissa built on it would reach
+// its digits through one name more.
 #[derive(Clone, Copy)]
 pub struct Exponent {
     pub sign: Option<Sign>,
@@ -98,7 +99,7 @@ impl Mantissa {
         }
     }
 
-    // One digit more after the dot. The places never stop: no source holds so many bytes.
+    // One digit more after the dot. The count of places saturates, which no source is long enough to see.
     pub fn with_place(&self, digit: u8) -> Mantissa
         ensures { result ≡ one_place_of self.now digit }
     {

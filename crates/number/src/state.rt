@@ -28,7 +28,7 @@ pub enum State {
     Radix(u8),
     // one or more digits after them
     Bits(u8, Capped<MOST_BITS>),
-    // no number begins so
+    // no number begins so; a case and no Option, so that the match stays one
     Dead,
 }
 
@@ -44,7 +44,7 @@ fn radix_digit(base: u8, n: Capped<MOST_BITS>, b: u8) -> State
 }
 
 impl State {
-    // One byte more of the run.
+    // One byte more of the run: one match on state and byte, a rule of the project.
     pub fn next(&self, b: u8) -> State
         ensures { result ≡ next_of self.now b }
     {

@@ -40,7 +40,7 @@ pub enum Reason {
 }
 
 impl Reason {
-    // Not a cast, as a kind's: a fault is carried along.
+    // No cast, as `Kind` has: a fault carries a value.
     pub fn number(&self) -> u8
         ensures { result ≡ number_of self.now }
     {

@@ -74,7 +74,8 @@ impl<I: Copy> Object<I> {
         }
     }
 
-    // One function for each case that is handed over as it is: a pattern can't be a parameter.
+    // One method for each case: a shared one would take a closure as long as the match. They are no
+    // `TryFrom`, since they answer of a borrowed object.
     pub fn name(&self) -> Result<Name<I>, Refusal>
         ensures { result ≡ name_in self.now }
     {

@@ -53,6 +53,7 @@ fn main(rt: HostRuntime) -> io::Result<()> {
     let mut input = rt.stdin();
     // Each line is one write: a buffer would be on the heap.
     let mut output = rt.stdout();
+    // no heap: an array, and what came of it
     let mut bytes = [0u8; MOST];
     let mut more = [0u8; 1];
     let count = fill(&mut input, &mut bytes)?;

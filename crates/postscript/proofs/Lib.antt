@@ -1,6 +1,6 @@
-pub mod Looking
-pub mod Taking
 pub mod Bracketed
-pub mod Runs
-pub mod Typed
+pub mod Judging
+pub mod Looking
 pub mod OneTurn
+pub mod Runs
+pub mod Taking

@@ -4,4 +4,4 @@ pub mod array;
 mod read;
 pub mod scanner;
 
-pub use objects::{decode, error, kind, name, object, part, string};
+pub use objects::{decode, error, kind, name, object, part, string, typed};

@@ -107,7 +107,7 @@ fn width(form: Form) -> u32
     }
 }
 
-// Which skip, the form says: a closure would be passed beside the form, which the object keeps anyway.
+// The form says which skip; a closure would be a second parameter beside it.
 fn skip_string<S: Source>(source: &mut S, form: Form) -> Result<(), Open>
     ensures skips { Skipped (scan_of form) (width_of form) result (S.Source.meaning source.old) (S.Source.meaning source.new) }
     ensures lies { S.Source.lies source.new ≡ S.Source.lies source.old }
@@ -131,6 +131,7 @@ fn string<S: Windowed>(source: &mut S, form: Form) -> Result<Object<S::Inside>, 
     Ok(Object::String(String { part, form }))
 }
 
+// As `string`, with another skip and another case; `Opened` has what they share.
 fn array<S: Windowed>(source: &mut S) -> Result<Object<S::Inside>, Reason>
     requires { first (S.Source.meaning source.old).to_come ≡ Some 91 }
     ensures reads { Read S.Inside.Source.meaning S.Inside.Source.lies (S.Source.meaning source.old) (S.Source.meaning source.new) (S.Source.lies source.old) result }
@@ -148,6 +149,7 @@ fn name<S: Windowed>(source: &mut S, literal: bool) -> Result<Object<S::Inside>,
     ensures reads { Read S.Inside.Source.meaning S.Inside.Source.lies (S.Source.meaning source.old) (S.Source.meaning source.new) (S.Source.lies source.old) result }
     ensures lies { S.Source.lies source.new ≡ S.Source.lies source.old }
 {
+    // a slash is one byte
     let opened = Opened::behind(source, u32::from(literal));
     pass(source, &Class::Regular);
     run_end(source)?;

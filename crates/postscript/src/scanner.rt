@@ -76,7 +76,7 @@ impl<S: Windowed> Scanner<S> {
         T::of(&object)
     }
 
-    // The typed parsers are `parse`, each under the plain reader's name.
+    // The typed parsers are `parse`, each under the plain reader's name, which a caller knows it by.
 
     // The number after the gap. An object that is none is passed, and refused at its start.
     pub fn parse_number(&mut self) -> Result<Number, Refusal>

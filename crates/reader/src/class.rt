@@ -6,6 +6,7 @@ ghost use Rattle.reader.specs.Classes.{members};
 
 use super::source::Source;
 
+// The bits of a byte's classes. They are no type of their own, since only this table holds them.
 const BLANK: u8 = 1;
 
 const DELIMITER: u8 = 2;
@@ -118,7 +119,8 @@ pub fn digit_worth(b: u8) -> u8
     }
 }
 
-// The digits of a base: digits and letters that are worth less than it.
+// The digits of a base: digits and letters that are worth less than it. The table has bases 8 and 10 too,
+// where one read answers.
 #[derive(Clone, Copy)]
 pub struct BaseDigit {
     pub base: u8,

@@ -8,10 +8,13 @@ use super::source::{Ending, Fault, Source, Windowed};
 // Place plus bytes to come never passes this.
 pub const LIMIT: usize = 4_294_967_295;
 
+// What a longer slice ends in.
+const TOO_LONG: Fault = Fault { layer: 1, cause: 1 };
+
 // Lent bytes, layer 1: a slice, and the place reached in it. The bytes and the place are kept
 // apart, and every value means something, so no fact about the two is needed. A slice longer than
-// the limit means no bytes and a fault; its length is tested again at each call, which costs
-// nothing in a loop, where it does not change. What it means is told by functions of its fields
+// the limit means no bytes and a fault; its length is tested again at each call, but
+// does not change in a loop. What it means is told by functions of its fields
 // (specs/Lent.antt), since a type with a lifetime that is Copy can have no Model.
 #[derive(Clone, Copy)]
 pub struct Lent<'a> {
@@ -70,7 +73,7 @@ impl<'a> Source for Lent<'a> {
 
     fn ending(&self) -> Option<Ending> {
         if self.is_too_long() {
-            Some(Err(Fault { layer: 1, cause: 1 }))
+            Some(Err(TOO_LONG))
         } else if self.to_come().is_empty() {
             Some(Ok(()))
         } else {

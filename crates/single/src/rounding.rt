@@ -24,8 +24,8 @@ impl Normalised {
         }
     }
 
-    // How many bits more this takes for a quotient of 24 bits: it is above half the divisor, and
-    // below twice that.
+    // How many bits more this takes for a quotient of 24 bits: it is between half the divisor and twice the
+    // divisor.
     fn more_bits(&self, divisor: &Normalised) -> u32
         ensures { ((self.now.value < divisor.now.value) × (result ≡ 24)) ⊎ ((divisor.now.value ≤ self.now.value) × (result ≡ 23)) }
     {

@@ -32,7 +32,7 @@ pub(crate) fn worth(real: &Decimal) -> Option<Fraction>
             den: power,
         });
     }
-    // the last product is the greatest, so that it alone is tried
+    // the last product is the greatest, so it alone is tested
     let num = real.c().checked_mul(power).filter(|n| *n < MOST)?;
     Some(Fraction { num, den: 1 })
 }

@@ -31,8 +31,8 @@ pub fn skip_array<S: Source>(source: &mut S) -> Result<(), Open>
     ensures skips { Skipped (λ d. items (suc d)) 1 result (S.Source.meaning source.old) (S.Source.meaning source.new) }
     ensures lies { S.Source.lies source.new ≡ S.Source.lies source.old }
 {
-    // the depth stands for a recursion, since nothing recurses; the loop is left by its label, a rule
-    // of the project
+    // the depth stands for a recursion, which the project does without; the loop is left by its label, a
+    // rule of the project
     let mut depth: u32 = 0;
     'array: loop {
         let b = source.peek().ok_or(Open::RanOut)?;

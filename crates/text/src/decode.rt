@@ -57,6 +57,7 @@ fn write<S: Source>(source: S, buffer: &mut [u8]) -> usize
     ensures bytes { buffer.new ≡ decoded_text (S.Source.meaning source).to_come ++ drop result buffer.old }
 {
     let mut text = DecodedBytes { left: source };
+    // no zip: the place where the text ends is the answer
     for (at, slot) in buffer.iter_mut().enumerate() {
         let Some(byte) = text.next() else {
             return at;

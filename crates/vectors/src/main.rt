@@ -118,6 +118,7 @@ impl Tally {
 fn main(rt: HostRuntime) -> io::Result<()> {
     let mut tally = Tally::new(None);
     let lines = BufReader::new(rt.alloc(), rt.stdin())?.lines(rt.alloc());
+    // lines count from 1
     for (number, line) in (1..=u64::MAX).zip(lines) {
         let line = line?;
         if let Some(name) = line.as_str().strip_prefix("# ") {

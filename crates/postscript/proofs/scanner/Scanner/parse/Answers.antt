@@ -1,5 +1,5 @@
 use Rattle.std.proofs.lemmas.Result.{err_from_is_err_and}
-use Rattle.postscript.proofs.Typed.{refused_turn, object_turn}
+use Rattle.postscript.proofs.Judging.{refused_turn, object_turn}
 use Rattle.postscript.proofs.scanner.Scanner.parse.Goals as goal
 
 pub returns-in_err-object-clause-turn : goal.returns-in_err-object-clause-turn
