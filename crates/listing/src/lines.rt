@@ -35,7 +35,8 @@ pub(crate) fn check_room(buffer: &[u8]) -> Result<(), Refusal>
 
 // Writes the line of a refusal to the front of a buffer, as `write_line` does. Both are `check_room` and
 // `copy_to`, each with its line: a refusal alone has no source, so it is no entry. That the length is
-// within the buffer is said in the words of the decoder's record, which stands in a crate below.
+// within the buffer is a clause of its own: the decoder's record of both is of the crate text, and to use
+// that crate for one clause would be no plainer.
 pub fn write_refusal(refusal: &Refusal, buffer: &mut [u8]) -> Result<usize, Refusal>
     ensures line { WritesLine buffer.old (refusal_line «refusal».now) (decoder_told result) buffer.new }
     ensures room { IfOk result (λ n. n ≤ length buffer.new) }

@@ -8,7 +8,7 @@ use std::marker::Model;
 // type: c is below 10^18, k is from -99 to 99, and k is 0 where c is.
 #[derive(Clone, Copy, PartialEq, Eq, Debug)]
 pub struct Decimal {
-    // a flag, as callers and the definitions have it
+    // a flag and no sign: it is one question, and `is_negative` answers it
     negative: bool,
     c: u64,
     k: i8,

@@ -100,6 +100,7 @@ pub struct Refusal {
 }
 
 impl Refusal {
+    // The number that a listing prints: its reason's.
     pub fn number(&self) -> u8
         ensures { result ≡ number_of self.now.reason }
     {

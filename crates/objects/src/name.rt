@@ -19,6 +19,7 @@ impl<I: Copy> Name<I> {
         self.literal
     }
 
+    // No From: a bool would not tell what the flag says.
     pub fn kind(&self) -> Kind
         ensures { result ≡ name_kind self.now.literal }
     {

@@ -1,10 +1,11 @@
 -- What parse_object took or refused, as the typed parsers answer it. Assumes nothing.
 use Rattle.std.proofs.Common.{◌≡◌, List, Ok, Err, sym, refl, ap, ◌∙◌, subst}
-use Rattle.definitions.specs.PlainReader.{Parser, parse_object, parses, Handed, Answer, handed, Judges, Piece, Turn}
+use Rattle.definitions.specs.Grammar.{Shown}
+use Rattle.definitions.specs.PlainReader.{Parser, parse_object, parse_number, parses, Handed, Answer, handed, Judges, Piece, Turn}
 use Rattle.definitions.specs.Sources.{Meaning}
 use Rattle.definitions.proofs.Rejudged.{rejudged}
 use Rattle.objects.specs.Answers.{answered, as_refusal, Judged}
-use Rattle.objects.specs.Objects.{part_of, as_handed}
+use Rattle.objects.specs.Objects.{kind_number, kind_of, value_of, part_of, as_handed}
 use Rattle.objects.specs.declared.error.Refusal.{Refusal}
 use Rattle.objects.specs.declared.object.Object.{Object}
 
@@ -25,3 +26,8 @@ module _ {I : Type 0} (meaning : I → Meaning) {s t : Meaning} (p : Parser) whe
         subst (λ q. Judges p q o a) (sym w) (f o (subst (λ q. handed q o ≡ as_handed meaning x) w j)))
         (λ n place e k. cc),
   )
+
+-- by parse_number: docs/PORT.md names it, and no proof needs it now
+pub number_turn : {I : Type 0} (meaning : I → Meaning) {s t : Meaning} (x : Object I) (a : Answer) → ((o : Shown) → o.kind ≡ kind_number (kind_of x) → o.value ≡ value_of x → Judges parse_number (part_of x).start o a)
+    → (ps : List Piece) × Turn s (parses parse_object) (answered meaning (Ok x)) ps t → (ps : List Piece) × Turn s (parses parse_number) a ps t
+number_turn meaning x a f = object_turn meaning parse_number x a (λ o e. f o (ap (λ (v : Handed). v.kind) e) (ap (λ (v : Handed). v.value) e))

@@ -1,5 +1,5 @@
 -- Lent bytes at a place, and a window of them. Assumes nothing.
-use Rattle.std.proofs.Common.{◌≡◌, ℕ, zero, suc, ◌+◌, ◌<◌, ◌≤◌, min, Bool, true, false, cond, leb, List, [], ◌∷◌, length, take, drop, refl, arith, length-drop, length-take, le-leb, leb-true}
+use Rattle.std.proofs.Common.{◌≡◌, ℕ, zero, suc, ◌+◌, ◌<◌, ◌≤◌, min, Bool, true, false, cond, leb, List, [], ◌∷◌, length, get_or, take, drop, refl, arith, length-drop, length-take, le-leb, leb-true}
 use Rattle.std.proofs.lemmas.List.{drop_more}
 use Rattle.definitions.specs.Moves.{stepped}
 use Rattle.definitions.specs.Sources.{Meaning, clean, lent, limit, if_there, window}
@@ -29,3 +29,7 @@ windows at (suc n) bs part h k e =
     let b : length bs ≤ limit = h (omega arith) in
     let w : length (take (suc n) (drop at bs)) ≤ limit = simp length-take (omega arith) in
     rw (e, le-leb (length bs) limit b, le-leb (length (take (suc n) (drop at bs))) limit w, same_either_way (suc n) (drop at bs) clean)
+
+-- a byte is there: docs/PORT.md names it, and no proof needs it now
+pub there : (at : ℕ) (bs : List ℕ) → length bs ≤ limit → at < length bs → (lent_from at bs).to_come ≡ get_or bs at 0 ∷ drop (at + 1) bs
+there at bs h k = rw (le-leb (length bs) limit h) (drop_more bs at 0 k)

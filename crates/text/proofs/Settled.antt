@@ -1,5 +1,5 @@
 -- What the first pass found, and what was written, settle the decoder's answer. Assumes nothing.
-use Rattle.std.proofs.Common.{◌≡◌, ℕ, ◌≤◌, List, ◌++◌, length, drop, Ok, Err, Result, sym, subst, arith, length-append}
+use Rattle.std.proofs.Common.{◌≡◌, ℕ, ◌≤◌, List, ◌++◌, length, drop, IfOk, Ok, Err, Result, sym, refl, subst, arith, length-append}
 use Rattle.definitions.specs.Decoder.{Told, decoded, DecodesInto, DecodesSource}
 use Rattle.definitions.specs.LiteralText.{decode, paired}
 use Rattle.definitions.specs.Sources.{Ending, Meaning, clean}
@@ -33,3 +33,14 @@ wrote buffer after m n h e k =
     let d = decode m.to_come in
     let x : DecodesInto buffer m.to_come m.place clean (decoded (length d)) (d ++ drop (length d) buffer) = DecodesInto.writes d (decodes_as m.to_come (t_from (paired m.to_come) h.1)) h.2 in
     rw (k, e) (record { text = ends h.0 x; room = omega (arith, length-append d (drop (length d) buffer)) })
+
+-- the decoded bytes fit in the buffer: docs/PORT.md names it, and no proof needs it now
+count_fits : {buffer text after : List ℕ} {place : ℕ} {e : Ending} {t : Told} → DecodesInto buffer text place e t after → (n : ℕ) → t ≡ decoded n → n ≤ length after
+count_fits DecodesInto.faulty n k = grind arith
+count_fits (DecodesInto.backslash x) n k = grind arith
+count_fits (DecodesInto.too_short d x h) n k = grind arith
+count_fits {buffer = buffer} (DecodesInto.writes d x h) n k = let q : length d ≡ n = cc in omega (arith, length-append d (drop (length d) buffer))
+
+pub fits : {buffer text after : List ℕ} {e : Ending} (place : ℕ) (r : Result ℕ Undecoded) → DecodesInto buffer text place e (told place r) after → IfOk r (λ n. n ≤ length after)
+fits place (Ok n) x = count_fits x n refl
+fits place (Err why) x = tt

@@ -11,7 +11,8 @@ use super::undecoded::Undecoded;
 use reader::source::Source;
 
 // The text's next piece, from its first byte on, which was taken: takes the rest of it, and
-// answers the byte that it gives.
+// answers the byte that it gives. That no more is to come than before is a clause here and of what it calls:
+// a fact in a type tells of one value, not of two.
 fn piece<S: Source>(b: u8, source: &mut S) -> Option<u8>
     ensures means { decoded_text (b ∷ (S.Source.meaning source.old).to_come) ≡ onto result (decoded_text (S.Source.meaning source.new).to_come) }
     ensures passes { length (S.Source.meaning source.new).to_come ≤ length (S.Source.meaning source.old).to_come }
