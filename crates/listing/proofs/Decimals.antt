@@ -1,19 +1,24 @@
 -- The digits of a number, from the last to the first. Assumes nothing.
-use Rattle.std.proofs.Common.{◌≡◌, ℕ, zero, suc, ◌+◌, ◌-◌, ◌*◌, ◌/◌, ◌%◌, ◌^◌, ◌<◌, ◌≤◌, max, ◌⊎◌, List, [], ◌∷◌, ◌++◌, length, drop, set, sym, ap, ◌∙◌, inl, inr, append_assoc, append-nil, arith, length-append, length-set}
+use Rattle.std.proofs.Common.{◌≡◌, ℕ, zero, suc, ◌+◌, ◌-◌, ◌*◌, ◌/◌, ◌%◌, ◌^◌, ◌<◌, ◌≤◌, max, ◌⊎◌, List, [], ◌∷◌, ◌++◌, length, drop, set, ℤ, pos, neg_ℤ, sym, ap, ◌∙◌, inl, inr, append_assoc, append-nil, arith, length-append, length-set}
 use native.Mathlib.Nat.{pow-succ'}
 use Rattle.std.proofs.Math.Seq.{drop-length}
 use Rattle.std.proofs.lemmas.Bool.{cases_lt}
 use Rattle.std.proofs.lemmas.List.{drop-set}
-use Rattle.definitions.specs.Listing.{decimal}
+use Rattle.definitions.specs.Listing.{decimal, signed_decimal}
 use Rattle.definitions.proofs.Listing.{decimal_digit, decimal_step}
 use Rattle.definitions.proofs.Singles.{ten_pos}
 
 -- a number has a digit, and from 10 on one more than its tenth
-some_digit : (n : ℕ) → n < 10 → length (decimal n) ≡ 1
+pub some_digit : (n : ℕ) → n < 10 → length (decimal n) ≡ 1
 some_digit n h = ap length (decimal_digit n h)
 
-one_more : (n : ℕ) → 10 ≤ n → length (decimal n) ≡ length (decimal (n / 10)) + 1
+pub one_more : (n : ℕ) → 10 ≤ n → length (decimal n) ≡ length (decimal (n / 10)) + 1
 one_more n h = ap length (decimal_step n h) ∙ length-append (decimal (n / 10)) ((48 + n % 10) ∷ [])
+
+-- a number below 0 is written as a minus and its distance from 0
+pub below_zero : (z : ℤ) (m : ℕ) → z ≡ neg_ℤ (pos m) → 0 < m → signed_decimal z ≡ 45 ∷ decimal m
+below_zero z zero e h = absurd (omega arith)
+below_zero z (suc m) e h = ap signed_decimal e
 
 a_digit : (n : ℕ) → 0 < length (decimal n)
 a_digit n = step (cases_lt n 10)

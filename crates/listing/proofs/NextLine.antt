@@ -1,6 +1,6 @@
 -- The next line of a listing, and the listing of what is left. Assumes nothing.
-use Rattle.std.proofs.Common.{◌≡◌, ℕ, ◌<◌, ◌≤◌, Bool, true, false, cond, List, [], ◌++◌, length, sym, refl, ap, ◌∙◌, append-nil, arith, length-append}
-use Rattle.definitions.specs.Decoder.{decoded}
+use Rattle.std.proofs.Common.{◌≡◌, ℕ, ◌<◌, ◌≤◌, Bool, true, false, cond, List, [], ◌++◌, length, drop, sym, refl, ap, ◌∙◌, append-nil, arith, length-append}
+use Rattle.definitions.specs.Decoder.{Told, decoded}
 use Rattle.definitions.specs.Listing.{line, listing, ends, refuses, goes_on, WritesLine}
 use Rattle.definitions.specs.PlainReader.{Call, Answer, object, yes_no, Handed, Piece, Turn}
 use Rattle.definitions.specs.Sources.{Meaning}
@@ -32,17 +32,22 @@ took_fewer h (Turn.takes {g = g} {bs = bs} {rest = rest} {o = o} p b j) e = omeg
 took_fewer h (Turn.refuses p r) e = absurd (cc)
 took_fewer h (Turn.looks p) e = absurd (cc)
 
+-- a line that was written has no more bytes than its buffer
+pub told_length : (buffer text : List ℕ) (n : ℕ) (d : Told) (after : List ℕ) → WritesLine buffer text d after → d ≡ decoded n → n ≤ length after
+told_length buffer text n d after (WritesLine.too_short h) e = absurd (cc)
+told_length buffer text n d after (WritesLine.writes h) e = let k : length text ≡ n = cc in omega (arith, length-append text (drop (length text) buffer))
+
 module _ {I : Type 0} (meaning : I → Meaning) where
   pub next_fewer : (e : Entry I) (s t : Meaning) → ComesNext meaning s t e → ends_with e ≡ false → length t.to_come < length s.to_come
   next_fewer (End p) s t x h = absurd (cc)
   next_fewer (Refused r) s t x h = absurd (cc)
   next_fewer (Object o) s t (u, ps, qs, x, y) h = omega (arith, look_fewer x, took_fewer (as_handed meaning o) y refl)
 
-  pub next_line : (e : Entry I) (s t : Meaning) (buffer after : List ℕ) (n : ℕ) (last : Bool) → ComesNext meaning s t e → WritesLine buffer (line_of meaning e) (decoded n) after → n ≤ length after → last ≡ ends_with e → ListedLine buffer after s t n last
-  next_line e s t buffer after n last x w r l = record {
+  pub next_line : (e : Entry I) (s t : Meaning) (buffer after : List ℕ) (n : ℕ) (last : Bool) → ComesNext meaning s t e → WritesLine buffer (line_of meaning e) (decoded n) after → last ≡ ends_with e → ListedLine buffer after s t n last
+  next_line e s t buffer after n last x w l = record {
     text = line_of meaning e;
     written = w;
     listing = next_listing meaning e s t x ∙ ap (λ b. line_of meaning e ++ cond b [] (listing t)) (sym l);
     shorter = λ h. next_fewer e s t x (sym l ∙ h);
-    room = r;
+    room = told_length buffer (line_of meaning e) n (decoded n) after w refl;
   }

@@ -14,7 +14,7 @@ use std::io::Write;
 
 // What the next line tells of.
 fn next_entry<S: Windowed>(scanner: &mut Scanner<S>) -> Entry<S::Inside>
-    ensures { ComesNext S.Inside.Source.meaning (S.Source.meaning scanner.old) (S.Source.meaning scanner.new) result }
+    ensures { ComesNext S.Inside.Source.meaning (S.Source.meaning scanner.old.source) (S.Source.meaning scanner.new.source) result }
 {
     if scanner.at_end() {
         return Entry::End(scanner.place());
@@ -32,7 +32,7 @@ pub fn list_next<S: Windowed>(
     scanner: &mut Scanner<S>,
     buffer: &mut [u8],
 ) -> Result<Written, Refusal>
-    ensures { ListsNext buffer.old buffer.new (S.Source.meaning scanner.old) (S.Source.meaning scanner.new) result }
+    ensures { ListsNext buffer.old buffer.new (S.Source.meaning scanner.old.source) (S.Source.meaning scanner.new.source) result }
 {
     check_room(buffer)?;
     let entry = next_entry(scanner);
@@ -47,8 +47,8 @@ pub fn write_listing<S: Windowed, W: Write>(
     scanner: &mut Scanner<S>,
     output: &mut W,
 ) -> io::Result<()>
-    ensures text { OnOk result (Appends (W.contents output.old) (W.contents output.new) (listing (S.Source.meaning scanner.old))) }
-    ensures stands { OnOk result (ListedUpTo (S.Source.meaning scanner.old) (S.Source.meaning scanner.new)) }
+    ensures text { OnOk result (Appends (W.contents output.old) (W.contents output.new) (listing (S.Source.meaning scanner.old.source))) }
+    ensures stands { OnOk result (ListedUpTo (S.Source.meaning scanner.old.source) (S.Source.meaning scanner.new.source)) }
 {
     'lines: loop {
         let entry = next_entry(scanner);

@@ -1,4 +1,4 @@
-ghost use Rattle.std.specs.Prelude.{◌≡◌, ◌+◌, ◌*◌, ◌≤◌, min};
+ghost use Rattle.std.specs.Prelude.{◌≡◌, ◌+◌, ◌*◌, ◌^◌, ◌<◌, ◌≤◌, min};
 
 use std::marker::Model;
 
@@ -36,14 +36,13 @@ impl<const MOST: u64> Capped<MOST> {
         self.n
     }
 
-    // One digit more of a base. What does not fit into 64 bits is past MOST too.
+    // One digit more of a base that is so small that a digit more than MOST fits into 64 bits: nothing
+    // is tested but the cap.
     pub fn with_digit(&self, base: u8, digit: u8) -> Self
+        requires { MOST * base + digit < 2 ^ 64 }
         ensures { result ≡ min (self.now * base + digit) MOST }
     {
-        let longer = self
-            .n
-            .saturating_mul(u64::from(base))
-            .saturating_add(u64::from(digit));
+        let longer = self.n * u64::from(base) + u64::from(digit);
         Capped {
             n: longer.min(MOST),
         }

@@ -2,29 +2,22 @@ ghost use Rattle.std.specs.Prelude.{◌≡◌, ◌^◌, ◌<◌, true, pos, neg_
 ghost use Rattle.definitions.specs.Numbers.{Decimal as Limits};
 
 use std::fmt;
-use std::marker::Model;
 
 // A real as its run writes it: worth c × 10^k, below 0 where it is negative. Its limits are in its
-// type: c is below 10^18, k is from -99 to 99, and k is 0 where c is.
+// type: c is below 10^18, k is from -99 to 99, and k is 0 where c is. They are ghost fields and no
+// Model: whoever holds a decimal can cite them, behind a reference too, and what holds one is copied
+// like any other value, which the toolchain does not cover where a Model stands in it.
 #[derive(Clone, Copy, PartialEq, Eq, Debug)]
 pub struct Decimal {
-    // a flag and no sign: it is one question, and `is_negative` answers it
-    negative: bool,
+    // the largest first, so that a copy has no gaps to take along
     c: u64,
     k: i8,
-}
-
-impl Model for Decimal {
-    ghost use Rattle.definitions.specs.Numbers.{Decimal as Limits};
-    ghost use Rattle.number.specs.Scaled.{Scaled};
-
-    ghost Value = { Scaled };
-
-    ghost view = { λ d. record { negative = d.negative; c = d.c; k = d.k } };
-
-    ghost invariant = { λ d. Limits d.c d.k };
-
-    ghost inverse = { λ d. record { negative = d.negative; c = d.c; k = d.k } };
+    // a flag and no sign: it is one question, and `is_negative` answers it
+    negative: bool,
+    ghost digits: { c < 10 ^ 18 },
+    ghost low: { neg_ℤ (pos 99) ≤ℤ k },
+    ghost high: { k ≤ℤ pos 99 },
+    ghost plain: { c ≡ 0 → k ≡ pos 0 },
 }
 
 // Whether a decimal may have this c and k.
@@ -80,7 +73,7 @@ impl fmt::Display for Decimal {
     ghost use Rattle.std.specs.Prelude.{Some};
     ghost use Rattle.number.specs.Scaled.{text};
 
-    ghost output = { λ d. Some (text d) };
+    ghost output = { λ d. Some (text (record { negative = d.negative; c = d.c; k = d.k })) };
 
     fn fmt<W: fmt::Write>(&self, f: &mut fmt::Formatter<W>) -> fmt::Result {
         let sign = if self.negative { "-" } else { "" };

@@ -64,13 +64,16 @@ pub fn read<S: Source>(source: &mut S) -> Reading
 {
     let mut state = State::Start;
     while let Some(b) = source.peek() {
-        if matches!(state, State::Dead) || !Class::Regular.contains(b) {
+        if !Class::Regular.contains(b) {
             break;
         }
         state = state.next(b);
         source.step();
+        if matches!(state, State::Dead) {
+            // what is left of a run that is no number
+            pass(source, &Class::Regular);
+            return Reading::Name;
+        }
     }
-    // what is left of a run that is no number
-    pass(source, &Class::Regular);
     finish(state)
 }

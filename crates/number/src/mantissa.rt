@@ -20,22 +20,23 @@ pub const MOST_DIGITS: u64 = 1_000_000_000_000_000_000;
 // run's bytes, fewer than 2^32, stand after the dot.
 pub const MOST_POWER: u64 = 10_000_000_000;
 
-// What stands before an exponent.
+// What stands before an exponent. The digits come first here and below, so that they lie where the
+// other cases of a state have theirs, and the machine keeps them in one register.
 #[derive(Clone, Copy)]
 pub struct Mantissa {
-    pub sign: Option<Sign>,
     // all digits as one number
     pub c: Capped<MOST_DIGITS>,
     // how many of them stand after the dot
     pub places: u32,
+    pub sign: Option<Sign>,
 }
 
 // What stands after an e. A type of its own, with a cap of its own: a mantissa built on it would reach
 // its digits through one name more.
 #[derive(Clone, Copy)]
 pub struct Exponent {
-    pub sign: Option<Sign>,
     pub n: Capped<MOST_POWER>,
+    pub sign: Option<Sign>,
 }
 
 fn is_minus(sign: Option<Sign>) -> bool

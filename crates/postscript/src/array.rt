@@ -12,7 +12,7 @@ pub(crate) trait Objects {
 
     // A scanner over the inside, at its start.
     fn objects(&self) -> Scanner<Self::Inside>
-        ensures { result ≡ inside self.now };
+        ensures { result.source ≡ inside self.now };
 }
 
 impl<I: Copy> Objects for Array<I> {

@@ -12,27 +12,18 @@ use objects::string::String;
 use objects::typed::Typed;
 use reader::source::{Source, Windowed};
 use single::value::Number;
-use std::marker::Model;
 use syntax::gap::pass_gap;
 
-// A scanner: it reads one object after the other from its source.
+// A scanner: it reads one object after the other from its source. It has no Model: a caller who looks
+// ahead copies it, which the toolchain does not cover for a Model over lent bytes.
 #[derive(Clone, Copy)]
 pub struct Scanner<S> {
     source: S,
 }
 
-// Clauses see a scanner as its source.
-impl<S> Model for Scanner<S> {
-    ghost Value = { S };
-
-    ghost view = { λ scanner. scanner.source };
-
-    ghost inverse = { λ source. record { source = source } };
-}
-
 impl<S: Copy> Scanner<S> {
     pub fn new(source: S) -> Scanner<S>
-        ensures { result ≡ source }
+        ensures { result.source ≡ source }
     {
         Scanner { source }
     }
@@ -41,7 +32,7 @@ impl<S: Copy> Scanner<S> {
 impl<S: Windowed> Scanner<S> {
     // The place of the first byte that was not passed yet.
     pub fn place(&self) -> u32
-        ensures { result ≡ (S.Source.meaning self.now).place }
+        ensures { result ≡ (S.Source.meaning self.now.source).place }
     {
         self.source.place()
     }
@@ -49,8 +40,8 @@ impl<S: Windowed> Scanner<S> {
     // Passes the gap, and says whether a clean end is reached.
     #[tactic(auto, using(crate::proofs::Looking::looked))]
     pub fn at_end(&mut self) -> bool
-        ensures turn { (g : List ℕ) × Turn (S.Source.meaning self.old) at_end (yes_no result) (gap g ∷ []) (S.Source.meaning self.new) }
-        ensures lies { S.Source.lies self.new ≡ S.Source.lies self.old }
+        ensures turn { (g : List ℕ) × Turn (S.Source.meaning self.old.source) at_end (yes_no result) (gap g ∷ []) (S.Source.meaning self.new.source) }
+        ensures lies { S.Source.lies self.new.source ≡ S.Source.lies self.old.source }
     {
         pass_gap(&mut self.source);
         matches!(self.source.ending(), Some(Ok(())))
@@ -58,9 +49,9 @@ impl<S: Windowed> Scanner<S> {
 
     // The object after the gap, or the refusal of what stands there.
     pub fn parse_object(&mut self) -> Result<Object<S::Inside>, Refusal>
-        ensures turn { (ps : List Piece) × Turn (S.Source.meaning self.old) (parses parse_object) (answered S.Inside.Source.meaning result) ps (S.Source.meaning self.new) }
-        ensures insides { Insides S.Inside.Source.meaning S.Inside.Source.lies (S.Source.lies self.old) result }
-        ensures lies { S.Source.lies self.new ≡ S.Source.lies self.old }
+        ensures turn { (ps : List Piece) × Turn (S.Source.meaning self.old.source) (parses parse_object) (answered S.Inside.Source.meaning result) ps (S.Source.meaning self.new.source) }
+        ensures insides { Insides S.Inside.Source.meaning S.Inside.Source.lies (S.Source.lies self.old.source) result }
+        ensures lies { S.Source.lies self.new.source ≡ S.Source.lies self.old.source }
     {
         read(&mut self.source)
     }
@@ -68,9 +59,9 @@ impl<S: Windowed> Scanner<S> {
     // What a typed parser makes of the object after the gap. An object that it does not accept is passed,
     // and refused at its start.
     fn parse<T: Typed<S::Inside>>(&mut self) -> Result<T, Refusal>
-        ensures turn { (ps : List Piece) × Turn (S.Source.meaning self.old) (parses T.Typed.parser) (told T.Typed.answer result) ps (S.Source.meaning self.new) }
-        ensures insides { IfOk result (λ t. IfSome (T.Typed.whole t) (Inside S.Inside.Source.meaning S.Inside.Source.lies (S.Source.lies self.old))) }
-        ensures lies { S.Source.lies self.new ≡ S.Source.lies self.old }
+        ensures turn { (ps : List Piece) × Turn (S.Source.meaning self.old.source) (parses T.Typed.parser) (told T.Typed.answer result) ps (S.Source.meaning self.new.source) }
+        ensures insides { IfOk result (λ t. IfSome (T.Typed.whole t) (Inside S.Inside.Source.meaning S.Inside.Source.lies (S.Source.lies self.old.source))) }
+        ensures lies { S.Source.lies self.new.source ≡ S.Source.lies self.old.source }
     {
         let object = self.parse_object()?;
         T::of(&object)
@@ -80,8 +71,8 @@ impl<S: Windowed> Scanner<S> {
 
     // The number after the gap. An object that is none is passed, and refused at its start.
     pub fn parse_number(&mut self) -> Result<Number, Refusal>
-        ensures turn { (ps : List Piece) × Turn (S.Source.meaning self.old) (parses parse_number) (number_answered result) ps (S.Source.meaning self.new) }
-        ensures lies { S.Source.lies self.new ≡ S.Source.lies self.old }
+        ensures turn { (ps : List Piece) × Turn (S.Source.meaning self.old.source) (parses parse_number) (number_answered result) ps (S.Source.meaning self.new.source) }
+        ensures lies { S.Source.lies self.new.source ≡ S.Source.lies self.old.source }
     {
         self.parse::<Number>()
     }
@@ -90,27 +81,27 @@ impl<S: Windowed> Scanner<S> {
 
     // The name after the gap. An object that is none is passed, and refused at its start.
     pub(crate) fn parse_name(&mut self) -> Result<Name<S::Inside>, Refusal>
-        ensures turn { (ps : List Piece) × Turn (S.Source.meaning self.old) (parses parse_name) (told (held S.Inside.Source.meaning Object.Name) result) ps (S.Source.meaning self.new) }
-        ensures insides { IfOk result (λ x. Inside S.Inside.Source.meaning S.Inside.Source.lies (S.Source.lies self.old) (Object.Name x)) }
-        ensures lies { S.Source.lies self.new ≡ S.Source.lies self.old }
+        ensures turn { (ps : List Piece) × Turn (S.Source.meaning self.old.source) (parses parse_name) (told (held S.Inside.Source.meaning Object.Name) result) ps (S.Source.meaning self.new.source) }
+        ensures insides { IfOk result (λ x. Inside S.Inside.Source.meaning S.Inside.Source.lies (S.Source.lies self.old.source) (Object.Name x)) }
+        ensures lies { S.Source.lies self.new.source ≡ S.Source.lies self.old.source }
     {
         self.parse::<Name<S::Inside>>()
     }
 
     // The string after the gap, of any form. An object that is none is passed, and refused at its start.
     pub(crate) fn parse_string(&mut self) -> Result<String<S::Inside>, Refusal>
-        ensures turn { (ps : List Piece) × Turn (S.Source.meaning self.old) (parses parse_string) (told (held S.Inside.Source.meaning Object.String) result) ps (S.Source.meaning self.new) }
-        ensures insides { IfOk result (λ x. Inside S.Inside.Source.meaning S.Inside.Source.lies (S.Source.lies self.old) (Object.String x)) }
-        ensures lies { S.Source.lies self.new ≡ S.Source.lies self.old }
+        ensures turn { (ps : List Piece) × Turn (S.Source.meaning self.old.source) (parses parse_string) (told (held S.Inside.Source.meaning Object.String) result) ps (S.Source.meaning self.new.source) }
+        ensures insides { IfOk result (λ x. Inside S.Inside.Source.meaning S.Inside.Source.lies (S.Source.lies self.old.source) (Object.String x)) }
+        ensures lies { S.Source.lies self.new.source ≡ S.Source.lies self.old.source }
     {
         self.parse::<String<S::Inside>>()
     }
 
     // The array after the gap. An object that is none is passed, and refused at its start.
     pub(crate) fn parse_array(&mut self) -> Result<Array<S::Inside>, Refusal>
-        ensures turn { (ps : List Piece) × Turn (S.Source.meaning self.old) (parses parse_array) (told (held S.Inside.Source.meaning Object.Array) result) ps (S.Source.meaning self.new) }
-        ensures insides { IfOk result (λ x. Inside S.Inside.Source.meaning S.Inside.Source.lies (S.Source.lies self.old) (Object.Array x)) }
-        ensures lies { S.Source.lies self.new ≡ S.Source.lies self.old }
+        ensures turn { (ps : List Piece) × Turn (S.Source.meaning self.old.source) (parses parse_array) (told (held S.Inside.Source.meaning Object.Array) result) ps (S.Source.meaning self.new.source) }
+        ensures insides { IfOk result (λ x. Inside S.Inside.Source.meaning S.Inside.Source.lies (S.Source.lies self.old.source) (Object.Array x)) }
+        ensures lies { S.Source.lies self.new.source ≡ S.Source.lies self.old.source }
     {
         self.parse::<Array<S::Inside>>()
     }

@@ -52,20 +52,20 @@ impl<S: Source> Iterator for DecodedBytes<S> {
 }
 
 // Writes the decoded text to the front of a buffer that has room for it, and answers its length.
+// It stays a function in the program too, so that its loop has registers enough.
+#[inline(never)]
 fn write<S: Source>(source: S, buffer: &mut [u8]) -> usize
     requires { length (decoded_text (S.Source.meaning source).to_come) ≤ length buffer.old }
     ensures count { result ≡ length (decoded_text (S.Source.meaning source).to_come) }
     ensures bytes { buffer.new ≡ decoded_text (S.Source.meaning source).to_come ++ drop result buffer.old }
 {
-    let mut text = DecodedBytes { left: source };
-    // no zip: the place where the text ends is the answer
-    for (at, slot) in buffer.iter_mut().enumerate() {
-        let Some(byte) = text.next() else {
-            return at;
-        };
-        *slot = byte;
+    let mut at = 0;
+    // by its place, since the buffer's own iterator would test for room once more at each byte
+    for byte in (DecodedBytes { left: source }) {
+        buffer[at] = byte;
+        at += 1;
     }
-    buffer.len()
+    at
 }
 
 // Decodes all bytes to come of a source, as literal text, to the front of a buffer, and answers how
