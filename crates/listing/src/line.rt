@@ -66,10 +66,16 @@ impl Line {
     }
 
     // A number in decimal digits.
+    #[tactic(auto, using(definitions::proofs::Listing::decimal_digit))]
     fn push_decimal(&mut self, n: u64)
         requires { length self.old + length (decimal n) ≤ 48 }
         ensures { self.new ≡ self.old ++ decimal n }
     {
+        // a kind is one digit, and so is many a place or count
+        if n < 10 {
+            self.push(&[b'0' + n as u8]);
+            return;
+        }
         let end = self.length + digit_count(n);
         write_digits(&mut self.bytes[self.length..end], n);
         self.length = end;

@@ -36,8 +36,8 @@ impl<const MOST: u64> Capped<MOST> {
         self.n
     }
 
-    // One digit more of a base that is so small that a digit more than MOST fits into 64 bits: nothing
-    // is tested but the cap.
+    // One digit more of a base that is small enough for MOST with one digit more to fit into 64 bits, so
+    // that nothing is tested but the cap.
     pub fn with_digit(&self, base: u8, digit: u8) -> Self
         requires { MOST * base + digit < 2 ^ 64 }
         ensures { result ≡ min (self.now * base + digit) MOST }

@@ -9,7 +9,7 @@ use std::fmt;
 // like any other value, which the toolchain does not cover where a Model stands in it.
 #[derive(Clone, Copy, PartialEq, Eq, Debug)]
 pub struct Decimal {
-    // the largest first, so that a copy has no gaps to take along
+    // the largest first, which makes a copy shorter
     c: u64,
     k: i8,
     // a flag and no sign: it is one question, and `is_negative` answers it
