@@ -38,7 +38,7 @@ impl<const MOST: u64> Capped<MOST> {
 
     // One digit more of a base that is small enough for MOST with one digit more to fit into 64 bits, so
     // that nothing is tested but the cap.
-    pub fn with_digit(&self, base: u8, digit: u8) -> Self
+    pub(crate) fn with_digit(&self, base: u8, digit: u8) -> Self
         requires { MOST * base + digit < 2 ^ 64 }
         ensures { result ≡ min (self.now * base + digit) MOST }
     {

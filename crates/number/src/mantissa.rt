@@ -20,8 +20,8 @@ pub const MOST_DIGITS: u64 = 1_000_000_000_000_000_000;
 // run's bytes, fewer than 2^32, stand after the dot.
 pub const MOST_POWER: u64 = 10_000_000_000;
 
-// What stands before an exponent. The digits come first here and below, as in the other cases of a
-// state: with the sign in front the machine takes a tenth more instructions.
+// What stands before an exponent. The digits come first, here and in an exponent: with the sign in front
+// the machine takes a tenth more instructions.
 #[derive(Clone, Copy)]
 pub struct Mantissa {
     // all digits as one number
