@@ -1,3 +1,4 @@
 pub mod Caps
+pub mod Equal
 pub mod Forms
 pub mod Turns

@@ -10,6 +10,7 @@ use Rattle.text.specs.declared.undecoded.Undecoded.TheVariants as undecoded
 use Rattle.objects.specs.Decoding.{reason_of, decoder_told}
 use Rattle.objects.specs.Objects.{kind_number, string_kind, kind_of, part_of}
 use Rattle.objects.specs.declared.error.Refusal.{Refusal}
+use Rattle.number.specs.declared.decimal.Decimal.{Decimal}
 use Rattle.objects.specs.declared.object.Object.{Object}
 use Rattle.objects.specs.declared.object.Object.TheVariants.{Integer, Real, Name, String, Array}
 use Rattle.objects.specs.declared.string.Form.{Form}
@@ -50,7 +51,7 @@ encoded_held Literal n = absurd (n refl)
 encoded_held Hex n = DecodesHeld.encoded Accepts.hex_strings (λ e. cc)
 encoded_held Ascii85 n = DecodesHeld.encoded Accepts.ascii85_strings (λ e. cc)
 
-pub other_held : {I : Type 0} {buffer : List ℕ} {inside : Meaning} (o : Object I) → ((s : StringOf.String I) → o ≡ String s → ⊥) → DecodesHeld buffer (kind_number (kind_of o)) (part_of o).start inside (turned_down 4 (part_of o).start clean) buffer
+pub other_held : {I : Type 0} {buffer : List ℕ} {inside : Meaning} (o : Object I Decimal) → ((s : StringOf.String I) → o ≡ String s → ⊥) → DecodesHeld buffer (kind_number (kind_of o)) (part_of o).start inside (turned_down 4 (part_of o).start clean) buffer
 other_held (String x) n = absurd (n x refl)
 other_held (Integer p k) n = DecodesHeld.other_type (passed_by refl)
 other_held (Real p d) n = DecodesHeld.other_type (passed_by refl)

@@ -16,14 +16,14 @@ use Rattle.objects.specs.declared.part.Part.{Part}
 use Rattle.objects.proofs.Accepted.{named, stringed, passed_by}
 
 module _ {I : Type 0} where
-  numberless : (x : Object I) → value_of x ≡ none → accepts parse_number (kind_number (kind_of x)) ≡ false
+  numberless : (x : Object I Decimal) → value_of x ≡ none → accepts parse_number (kind_number (kind_of x)) ≡ false
   numberless (Integer p n) e = cc
   numberless (Real p d) e = cc
   numberless (Name n) e = named n.literal parse_number
   numberless (String s) e = stringed s.form parse_number
   numberless (Array a) e = refl
 
-  pub no_number : (x : Object I) → value_of x ≡ none → NumberIn x (Err OtherType)
+  pub no_number : (x : Object I Decimal) → value_of x ≡ none → NumberIn x (Err OtherType)
   no_number x e o at k v = other_type (passed_by (ap (accepts parse_number) k ∙ numberless x e))
 
 module _ {I : Type 0} (p : Part I) where

@@ -13,6 +13,7 @@ use Rattle.objects.specs.declared.error.Reason.{Reason}
 use Rattle.objects.specs.declared.error.Reason.TheVariants.{OtherType}
 use Rattle.objects.specs.declared.error.Refusal.{Refusal}
 use Rattle.objects.specs.declared.name.Name.{Name}
+use Rattle.number.specs.declared.decimal.Decimal.{Decimal}
 use Rattle.objects.specs.declared.object.Object.{Object}
 use Rattle.objects.specs.declared.object.Object.TheVariants as case
 use Rattle.objects.specs.declared.string.String.{String}
@@ -27,11 +28,11 @@ told hands (Ok t) = hands t
 told hands (Err r) = as_refusal r
 
 -- an object handed over, as the plain reader gives it; a name, a string or an array, as the object that it is
-abbrev pub held : {I T : Type 0} → (I → Meaning) → (T → Object I) → T → Answer
+abbrev pub held : {I T : Type 0} → (I → Meaning) → (T → Object I Decimal) → T → Answer
 held meaning case t = object (as_handed meaning (case t))
 
 -- an answer of parse_object
-abbrev pub answered : {I : Type 0} → (I → Meaning) → Result (Object I) Refusal → Answer
+abbrev pub answered : {I : Type 0} → (I → Meaning) → Result (Object I Decimal) Refusal → Answer
 answered meaning r = told (held meaning (λ x. x)) r
 
 -- an answer of parse_number: a float by its bits
@@ -43,7 +44,7 @@ abbrev pub number_answered : Result Number Refusal → Answer
 number_answered r = told numbered r
 
 -- what parse_number answers of an object, wherever it stands
-abbrev pub NumberIn : {I : Type 0} → Object I → Result Number Reason → Type 0
+abbrev pub NumberIn : {I : Type 0} → Object I Decimal → Result Number Reason → Type 0
 NumberIn x (Ok n) = (o : Shown) (at : ℕ) → o.kind ≡ kind_number (kind_of x) → o.value ≡ value_of x → Judges parse_number at o (numbered n)
 NumberIn x (Err e) = (o : Shown) (at : ℕ) → o.kind ≡ kind_number (kind_of x) → o.value ≡ value_of x → Judges parse_number at o (refusal (number_of e) at (fault_of e))
 
@@ -53,11 +54,11 @@ reasoned (Ok t) = Ok t
 reasoned (Err r) = Err r.reason
 
 -- an object refused at its start
-abbrev pub refused_by : {I : Type 0} → Reason → Object I → Refusal
+abbrev pub refused_by : {I : Type 0} → Reason → Object I Decimal → Refusal
 refused_by why x = record { place = (part_of x).start; reason = why }
 
 -- a name as it is; any other object is of another type
-abbrev pub name_in : {I : Type 0} → Object I → Result (Name I) Refusal
+abbrev pub name_in : {I : Type 0} → Object I Decimal → Result (Name I) Refusal
 name_in (case.Name n) = Ok n
 name_in (case.Integer p n) = Err (refused_by OtherType (case.Integer p n))
 name_in (case.Real p d) = Err (refused_by OtherType (case.Real p d))
@@ -65,7 +66,7 @@ name_in (case.String s) = Err (refused_by OtherType (case.String s))
 name_in (case.Array a) = Err (refused_by OtherType (case.Array a))
 
 -- a string as it is; any other object is of another type
-abbrev pub string_in : {I : Type 0} → Object I → Result (String I) Refusal
+abbrev pub string_in : {I : Type 0} → Object I Decimal → Result (String I) Refusal
 string_in (case.String s) = Ok s
 string_in (case.Integer p n) = Err (refused_by OtherType (case.Integer p n))
 string_in (case.Real p d) = Err (refused_by OtherType (case.Real p d))
@@ -73,7 +74,7 @@ string_in (case.Name n) = Err (refused_by OtherType (case.Name n))
 string_in (case.Array a) = Err (refused_by OtherType (case.Array a))
 
 -- an array as it is; any other object is of another type
-abbrev pub array_in : {I : Type 0} → Object I → Result (Array I) Refusal
+abbrev pub array_in : {I : Type 0} → Object I Decimal → Result (Array I) Refusal
 array_in (case.Array a) = Ok a
 array_in (case.Integer p n) = Err (refused_by OtherType (case.Integer p n))
 array_in (case.Real p d) = Err (refused_by OtherType (case.Real p d))
@@ -81,5 +82,5 @@ array_in (case.Name n) = Err (refused_by OtherType (case.Name n))
 array_in (case.String s) = Err (refused_by OtherType (case.String s))
 
 -- a parser gives this answer of an object that it took
-abbrev pub Judged : {I : Type 0} → (I → Meaning) → Parser → Object I → Answer → Type 0
+abbrev pub Judged : {I : Type 0} → (I → Meaning) → Parser → Object I Decimal → Answer → Type 0
 Judged meaning p x a = (o : Shown) → handed (part_of x).start o ≡ as_handed meaning x → Judges p (part_of x).start o a

@@ -5,6 +5,7 @@ use Rattle.definitions.specs.PlainReader.{Handed}
 use Rattle.definitions.specs.Sources.{Meaning}
 use Rattle.objects.specs.declared.kind.Kind.{Kind}
 use Rattle.objects.specs.declared.kind.Kind.TheVariants as kind
+use Rattle.number.specs.declared.decimal.Decimal.{Decimal}
 use Rattle.objects.specs.declared.object.Object.{Object}
 use Rattle.objects.specs.declared.object.Object.TheVariants.{Integer, Real, Name, String, Array}
 use Rattle.objects.specs.declared.part.Part.{Part}
@@ -31,7 +32,7 @@ string_kind Literal = kind.LiteralString
 string_kind Hex = kind.HexString
 string_kind Ascii85 = kind.Ascii85String
 
-abbrev pub kind_of : {I : Type 0} → Object I → Kind
+abbrev pub kind_of : {I : Type 0} → Object I Decimal → Kind
 kind_of (Integer p n) = kind.Integer
 kind_of (Real p d) = kind.Real
 kind_of (Name n) = name_kind n.literal
@@ -39,7 +40,7 @@ kind_of (String s) = string_kind s.form
 kind_of (Array a) = kind.Array
 
 -- where an object stands, and its inside
-abbrev pub part_of : {I : Type 0} → Object I → Part I
+abbrev pub part_of : {I : Type 0} → Object I Decimal → Part I
 part_of (Integer p n) = p
 part_of (Real p d) = p
 part_of (Name n) = n.part
@@ -47,7 +48,7 @@ part_of (String s) = s.part
 part_of (Array a) = a.part
 
 -- the number that an object holds, if any
-abbrev pub value_of : {I : Type 0} → Object I → Value
+abbrev pub value_of : {I : Type 0} → Object I Decimal → Value
 value_of (Integer p n) = integer_value n
 value_of (Real p d) = real_value d.negative d.c d.k
 value_of (Name n) = none
@@ -55,7 +56,7 @@ value_of (String s) = none
 value_of (Array a) = none
 
 -- an object as the plain reader hands it over: its inside by the bytes that it means
-abbrev pub as_handed : {I : Type 0} → (I → Meaning) → Object I → Handed
+abbrev pub as_handed : {I : Type 0} → (I → Meaning) → Object I Decimal → Handed
 as_handed meaning o = record {
   kind = kind_number (kind_of o);
   start = (part_of o).start;

@@ -13,11 +13,12 @@ use single::nearest::nearest;
 use single::value::Number;
 
 // An object. Over lent bytes its inside is that part of the bytes itself; over any other source it
-// is a window.
+// is a window. What a real holds is a type argument, and always a decimal: at lent bytes the toolchain
+// does not cover an enum that is generic over its source and itself names a type with ghost fields.
 #[derive(Clone, Copy)]
-pub enum Object<I> {
+pub enum Object<I, D = Decimal> {
     Integer(Part<I>, i32),
-    Real(Part<I>, Decimal),
+    Real(Part<I>, D),
     Name(Name<I>),
     String(String<I>),
     Array(Array<I>),

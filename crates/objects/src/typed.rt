@@ -1,6 +1,7 @@
 ghost use Rattle.std.specs.Prelude.{◌≡◌, Some, None, Option, IfOk, IfSome};
 ghost use Rattle.definitions.specs.PlainReader.{Parser, parse_number, parse_name, parse_string, parse_array, Answer};
 ghost use Rattle.objects.specs.Answers.{told, held, numbered, Judged};
+ghost use Rattle.number.specs.declared.decimal.Decimal.{Decimal};
 ghost use Rattle.objects.specs.declared.object.Object.{Object};
 ghost use Rattle.objects.specs.declared.object.Object.TheVariants as case;
 
@@ -20,7 +21,7 @@ pub trait Typed<I: Source>: Sized {
     ghost answer: { Self → Answer };
 
     // the object that this is, unless it is a number
-    ghost whole: { Self → Option (Object I) };
+    ghost whole: { Self → Option (Object I Decimal) };
 
     fn of(object: &Object<I>) -> Result<Self, Refusal>
         ensures judged { Judged I.Source.meaning parser object.now (told answer result) }

@@ -17,6 +17,7 @@ use Rattle.syntax.specs.declared.open.Open.{Open}
 use Rattle.objects.specs.Objects.{kind_number, string_kind, kind_of, part_of, value_of}
 use Rattle.postscript.specs.Reading.{Between, Closed, Read, behind, width_of, scan_of, StartsString}
 use Rattle.objects.specs.declared.error.Reason.{Reason}
+use Rattle.number.specs.declared.decimal.Decimal.{Decimal}
 use Rattle.objects.specs.declared.object.Object.{Object}
 use Rattle.objects.specs.declared.part.Part.{Part}
 use Rattle.objects.specs.declared.string.Form.{Form}
@@ -63,7 +64,7 @@ module _ {I : Type 0} (meaning : I → Meaning) (lies : I → Option Address) (s
   comes_to f e = k.opens ∙ ap (of_opener m.to_come m.ending) e
 
   -- it was closed
-  pub closed_so : (q : Result (Unit {0}) Open) (p : Part I) (x : Object I) → Skipped scan width q (behind width m) now → Closed meaning lies q m.place (behind width m) now home width (Ok p) → part_of x ≡ p
+  pub closed_so : (q : Result (Unit {0}) Open) (p : Part I) (x : Object I Decimal) → Skipped scan width q (behind width m) now → Closed meaning lies q m.place (behind width m) now home width (Ok p) → part_of x ≡ p
       → kind_number (kind_of x) ≡ kind → value_of x ≡ none → Read meaning lies m now home (Ok x)
   closed_so (Err o) p x s b e t v = absurd b
   closed_so (Ok u) p x s b e t v =

@@ -7,6 +7,7 @@ use Rattle.definitions.proofs.Rejudged.{rejudged}
 use Rattle.objects.specs.Answers.{answered, as_refusal, Judged}
 use Rattle.objects.specs.Objects.{kind_number, kind_of, value_of, part_of, as_handed}
 use Rattle.objects.specs.declared.error.Refusal.{Refusal}
+use Rattle.number.specs.declared.decimal.Decimal.{Decimal}
 use Rattle.objects.specs.declared.object.Object.{Object}
 
 module _ {I : Type 0} (meaning : I → Meaning) {s t : Meaning} (p : Parser) where
@@ -15,7 +16,7 @@ module _ {I : Type 0} (meaning : I → Meaning) {s t : Meaning} (p : Parser) whe
   refused_turn r (ps, x) = (ps, rejudged p (as_refusal r) x refl (λ h e. cc) (λ n place e k. refl))
 
   -- an object that parse_object hands over, judged by another parser
-  pub object_turn : (x : Object I) (a : Answer) → Judged meaning p x a → (ps : List Piece) × Turn s (parses parse_object) (answered meaning (Ok x)) ps t → (ps : List Piece) × Turn s (parses p) a ps t
+  pub object_turn : (x : Object I Decimal) (a : Answer) → Judged meaning p x a → (ps : List Piece) × Turn s (parses parse_object) (answered meaning (Ok x)) ps t → (ps : List Piece) × Turn s (parses p) a ps t
   object_turn x a f (ps, y) = (
     ps,
     rejudged p a y refl
@@ -28,6 +29,6 @@ module _ {I : Type 0} (meaning : I → Meaning) {s t : Meaning} (p : Parser) whe
   )
 
 -- by parse_number: docs/PORT.md names it, and no proof needs it now
-pub number_turn : {I : Type 0} (meaning : I → Meaning) {s t : Meaning} (x : Object I) (a : Answer) → ((o : Shown) → o.kind ≡ kind_number (kind_of x) → o.value ≡ value_of x → Judges parse_number (part_of x).start o a)
+pub number_turn : {I : Type 0} (meaning : I → Meaning) {s t : Meaning} (x : Object I Decimal) (a : Answer) → ((o : Shown) → o.kind ≡ kind_number (kind_of x) → o.value ≡ value_of x → Judges parse_number (part_of x).start o a)
     → (ps : List Piece) × Turn s (parses parse_object) (answered meaning (Ok x)) ps t → (ps : List Piece) × Turn s (parses parse_number) a ps t
 number_turn meaning x a f = object_turn meaning parse_number x a (λ o e. f o (ap (λ (v : Handed). v.kind) e) (ap (λ (v : Handed). v.value) e))

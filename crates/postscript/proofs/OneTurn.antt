@@ -12,17 +12,18 @@ use Rattle.postscript.specs.Reading.{Came, Read}
 use Rattle.objects.specs.Answers.{answered}
 use Rattle.objects.specs.declared.error.Reason.{Reason}
 use Rattle.objects.specs.declared.error.Refusal.{Refusal}
+use Rattle.number.specs.declared.decimal.Decimal.{Decimal}
 use Rattle.objects.specs.declared.object.Object.{Object}
 
 other : parse_object ≡ parse_number → ⊥
 other e = cc
 
 -- a reason is told as a refusal at a place
-abbrev pub at_place : {I : Type 0} → ℕ → Result (Object I) Reason → Result (Object I) Refusal
+abbrev pub at_place : {I : Type 0} → ℕ → Result (Object I Decimal) Reason → Result (Object I Decimal) Refusal
 at_place place (Ok x) = Ok x
 at_place place (Err why) = Err (record { place = place; reason = why })
 
-pub told_at : {I : Type 0} (place : ℕ) (q : Result (Object I) Reason) (r : Result (Object I) Refusal) {P : Reason → Refusal → Type 0} → MatchResult q (λ x. r ≡ Ok x) (λ why. IsErrAnd r (P why))
+pub told_at : {I : Type 0} (place : ℕ) (q : Result (Object I Decimal) Reason) (r : Result (Object I Decimal) Refusal) {P : Reason → Refusal → Type 0} → MatchResult q (λ x. r ≡ Ok x) (λ why. IsErrAnd r (P why))
     → ((why : Reason) (e : Refusal) → P why e → e ≡ record { place = place; reason = why }) → r ≡ at_place place q
 told_at place (Ok x) r m f = m
 told_at place (Err why) (Ok x) m f = absurd m
@@ -40,7 +41,7 @@ module _ {I : Type 0} (meaning : I → Meaning) (lies : I → Option Address) (s
   placed : m.place ≡ s.place + length p.gap
   placed = ap (λ (n : Meaning). n.place) p.stands
 
-  turned : (o : Outcome) (r : Result (Object I) Reason) → ComesTo m.to_come s.ending o → Came meaning o r m now → (ps : List Piece) × Turn s (parses parse_object) (answered meaning (at_place m.place r)) ps now
+  turned : (o : Outcome) (r : Result (Object I Decimal) Reason) → ComesTo m.to_come s.ending o → Came meaning o r m now → (ps : List Piece) × Turn s (parses parse_object) (answered meaning (at_place m.place r)) ps now
   turned (an_object o rest) (Ok x) c (h, e) = (
     gap p.gap ∷ taken o.whole ∷ [],
     subst₂ (λ a t. Turn s (parses parse_object) a (gap p.gap ∷ taken o.whole ∷ []) t) (ap object (sym (h ∙ ap (λ k. handed k o) placed))) (sym (e ∙ onward s m p.gap m.to_come o.whole rest p.stands))
@@ -55,5 +56,5 @@ module _ {I : Type 0} (meaning : I → Meaning) (lies : I → Option Address) (s
         (refuses p.parted (was_refused c)),
   )
 
-  pub read_turn : (r : Result (Object I) Reason) → Read meaning lies m now home r → (ps : List Piece) × Turn s (parses parse_object) (answered meaning (at_place m.place r)) ps now
+  pub read_turn : (r : Result (Object I Decimal) Reason) → Read meaning lies m now home r → (ps : List Piece) × Turn s (parses parse_object) (answered meaning (at_place m.place r)) ps now
   read_turn r x = turned (outcome m.to_come m.ending) r (subst (λ e. ComesTo m.to_come e (outcome m.to_come m.ending)) ended (comes m.to_come m.ending p.parted.past)) x.came

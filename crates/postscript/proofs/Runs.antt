@@ -16,6 +16,7 @@ use Rattle.reader.specs.Addresses.{Address}
 use Rattle.objects.specs.Objects.{kind_number, name_kind, kind_of, part_of, value_of}
 use Rattle.postscript.specs.Reading.{Came, Between, RunEnds, behind, StartsRun, StartsNoNumber, StartsName, slash_of, Read}
 use Rattle.objects.specs.declared.error.Reason.TheVariants.{PastLimits}
+use Rattle.number.specs.declared.decimal.Decimal.{Decimal}
 use Rattle.objects.specs.declared.object.Object.{Object}
 use Rattle.objects.specs.declared.object.Object.TheVariants.{Name}
 use Rattle.objects.specs.declared.part.Part.{Part}
@@ -29,7 +30,7 @@ front_fits r = let e = sym (length-append (front regular r) (past regular r)) �
 
 module _ {I : Type 0} (meaning : I → Meaning) (lies : I → Option Address) (n : ℕ) (m now : Meaning) (home : Option Address) (t : now ≡ past_class regular (behind n m)) where
   -- a run behind an opener, or behind none, was taken
-  pub run_took : (x : Object I) (o : Shown) → Between meaning lies m.place (behind n m) now home 0 (part_of x) → o.whole ≡ take n m.to_come ++ front regular (drop n m.to_come) → o.inside ≡ front regular (drop n m.to_come)
+  pub run_took : (x : Object I Decimal) (o : Shown) → Between meaning lies m.place (behind n m) now home 0 (part_of x) → o.whole ≡ take n m.to_come ++ front regular (drop n m.to_come) → o.inside ≡ front regular (drop n m.to_come)
       → kind_number (kind_of x) ≡ o.kind → value_of x ≡ o.value → opener_length o.kind ≡ length (take n m.to_come)
       → outcome m.to_come m.ending ≡ an_object o (past regular (drop n m.to_come)) → Read meaning lies m now home (Ok x)
   run_took x o b w i k v l h =
@@ -99,7 +100,7 @@ module _ {I : Type 0} (meaning : I → Meaning) (lies : I → Option Address) wh
     stands : outcome m.to_come m.ending ≡ of_reading (front regular m.to_come) (past regular m.to_come) r
     stands = run_reads m.to_come m.ending r h (subst (λ (n : Meaning). RunEnds n.to_come n.ending) t e) (reading_is q)
 
-    pub ran : (x : Object I) (o : Shown) → Between meaning lies m.place (behind 0 m) now home 0 (part_of x) → of_reading (front regular m.to_come) (past regular m.to_come) r ≡ an_object o (past regular m.to_come)
+    pub ran : (x : Object I Decimal) (o : Shown) → Between meaning lies m.place (behind 0 m) now home 0 (part_of x) → of_reading (front regular m.to_come) (past regular m.to_come) r ≡ an_object o (past regular m.to_come)
         → o.whole ≡ front regular m.to_come → o.inside ≡ front regular m.to_come → kind_number (kind_of x) ≡ o.kind → value_of x ≡ o.value → opener_length o.kind ≡ 0 → Read meaning lies m now home (Ok x)
     ran x o b f w i k v l = run_took meaning lies 0 m now home t x o b w i k v l (stands ∙ f)
 

@@ -15,6 +15,7 @@ use Rattle.postscript.specs.Reading.{Came, Between, OpenReason, AtEnd, Read}
 use Rattle.objects.specs.Refusals.{number_of, fault_of}
 use Rattle.objects.specs.declared.error.Reason.{Reason}
 use Rattle.objects.specs.declared.error.Reason.TheVariants.{Unclosed}
+use Rattle.number.specs.declared.decimal.Decimal.{Decimal}
 use Rattle.objects.specs.declared.object.Object.{Object}
 
 -- a list without its last byte, cut before
@@ -31,7 +32,7 @@ enough (suc n) (b ∷ bs) x y h = enough n bs x y (omega arith)
 
 module _ {I : Type 0} (meaning : I → Meaning) (lies : I → Option Address) where
   -- an object whose inside stands between an opener and a closer
-  pub took : (x : Object I) (o : Shown) (before from now : Meaning) (home : Option Address) (closer c : ℕ)
+  pub took : (x : Object I Decimal) (o : Shown) (before from now : Meaning) (home : Option Address) (closer c : ℕ)
       → Between meaning lies before.place from now home closer (part_of x) → now.place - from.place - closer ≡ c → c ≤ length from.to_come
       → kind_number (kind_of x) ≡ o.kind → value_of x ≡ o.value → o.inside ≡ take c from.to_come
       → now.place ≡ before.place + length o.whole → now.ending ≡ before.ending → from.place ≡ before.place + opener_length o.kind

@@ -16,6 +16,7 @@ use Rattle.objects.specs.Objects.{part_of, as_handed}
 use Rattle.objects.specs.Refusals.{number_of, fault_of}
 use Rattle.objects.specs.declared.error.Reason.{Reason}
 use Rattle.objects.specs.declared.error.Reason.TheVariants.{Unclosed, Fault}
+use Rattle.number.specs.declared.decimal.Decimal.{Decimal}
 use Rattle.objects.specs.declared.object.Object.{Object}
 use Rattle.objects.specs.declared.part.Part.{Part}
 use Rattle.objects.specs.declared.string.Form.{Form}
@@ -23,11 +24,11 @@ use Rattle.objects.specs.declared.string.Form.TheVariants.{Literal, Hex, Ascii85
 
 -- the inside that was handed over is a source of exactly the bytes inside, from place 0, with a clean end; where the
 -- scanner's source holds its bytes in memory, the inside lies there, behind the object's opener
-pub record Inside {I : Type 0} (meaning : I → Meaning) (lies : I → Option Address) (home : Option Address) (x : Object I) : Type 0 where
+pub record Inside {I : Type 0} (meaning : I → Meaning) (lies : I → Option Address) (home : Option Address) (x : Object I Decimal) : Type 0 where
   pub means : meaning (part_of x).inside ≡ record { to_come = (as_handed meaning x).inside; place = 0; ending = clean }
   pub there : 0 < length (as_handed meaning x).inside → lies (part_of x).inside ≡ further ((part_of x).start + opener_length (as_handed meaning x).kind) home
 
-abbrev pub Insides : {I E : Type 0} → (I → Meaning) → (I → Option Address) → Option Address → Result (Object I) E → Type 0
+abbrev pub Insides : {I E : Type 0} → (I → Meaning) → (I → Option Address) → Option Address → Result (Object I Decimal) E → Type 0
 Insides meaning lies home (Ok x) = Inside meaning lies home x
 Insides meaning lies home (Err e) = Unit {0}
 
@@ -37,7 +38,7 @@ Refused (an_object o rest) r before now = ⊥
 Refused (a_refusal n piece rest) r before now = (number_of r ≡ n) × (fault_of r ≡ carried n before.ending) × (now ≡ after before piece rest)
 
 -- what stands after the gap was handed over, or refused, and passed
-abbrev pub Came : {I : Type 0} → (I → Meaning) → Outcome → Result (Object I) Reason → Meaning → Meaning → Type 0
+abbrev pub Came : {I : Type 0} → (I → Meaning) → Outcome → Result (Object I Decimal) Reason → Meaning → Meaning → Type 0
 Came meaning (an_object o rest) (Ok x) before now = (as_handed meaning x ≡ handed before.place o) × (now ≡ after before o.whole rest)
 Came meaning (an_object o rest) (Err r) before now = ⊥
 Came meaning (a_refusal n piece rest) (Ok x) before now = ⊥
@@ -115,6 +116,6 @@ slash_of true = 1
 slash_of false = 0
 
 -- one reading, from an object's first byte on: what stands there came out, and its inside is a source of its own
-pub record Read {I : Type 0} (meaning : I → Meaning) (lies : I → Option Address) (before now : Meaning) (home : Option Address) (r : Result (Object I) Reason) : Type 0 where
+pub record Read {I : Type 0} (meaning : I → Meaning) (lies : I → Option Address) (before now : Meaning) (home : Option Address) (r : Result (Object I Decimal) Reason) : Type 0 where
   pub came : Came meaning (outcome before.to_come before.ending) r before now
   pub insides : Insides meaning lies home r

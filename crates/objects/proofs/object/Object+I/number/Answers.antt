@@ -6,7 +6,7 @@ use Rattle.objects.specs.Answers.{refused_by}
 use Rattle.objects.specs.Objects.{value_of}
 use Rattle.objects.specs.declared.error.Reason.TheVariants.{PastLimits}
 use Rattle.objects.proofs.Numbers.{an_integer, a_near_real, a_far_real, no_number}
-use Rattle.objects.proofs.object.Object.number.Goals as goal
+use Rattle.objects.proofs.object.Object+I.number.Goals as goal
 
 pub returns-in-Integer-clause-number : goal.returns-in-Integer-clause-number
 returns-in-Integer-clause-number g c =
