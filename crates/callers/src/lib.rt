@@ -2,14 +2,15 @@
 
 // What a caller may write over lent bytes and with decimals. No program of the repository does all of it,
 // so it stands here for the gate to prove: an object over lent bytes is bound whole, in a `?` and behind a
-// reference; a scanner is copied to look ahead; a decimal is compared, made again from its parts, and
-// copied with what holds it.
+// reference; a decimal is compared, and made again from its parts; a scanner, and what holds a decimal, is
+// copied.
 
-ghost use Rattle.std.specs.Prelude.{◌≡◌, IsTrue, ◌↔◌, List, [], ◌∷◌, Some};
+ghost use Rattle.std.specs.Prelude.{◌≡◌, IsTrue, ◌↔◌, List, Some};
 ghost use Rattle.definitions.specs.PlainReader.{Piece, parses, parse_object, Turn};
 ghost use Rattle.definitions.specs.Sources.{Meaning};
 ghost use Rattle.objects.specs.Answers.{answered, name_in};
-ghost use Rattle.reader.specs.Lent.{lent_at};
+ghost use Rattle.postscript.specs.Reading.{Insides};
+ghost use Rattle.reader.specs.Lent.{lent_at, lies_at};
 
 use number::decimal::Decimal;
 use number::machine::Reading;
@@ -19,12 +20,12 @@ use objects::object::Object;
 use postscript::scanner::Scanner;
 use reader::lent::Lent;
 
-// The object that comes next, or the refusal of what stands there. The scanner stays where it is.
-pub fn next_object<'a>(scanner: &Scanner<Lent<'a>>) -> Result<Object<Lent<'a>>, Refusal>
-    ensures { (ps : List Piece) × (t : Meaning) × Turn (lent_at scanner.now.source) (parses parse_object) (answered lent_at result) ps t }
+// The object that comes next, or the refusal of what stands there. Nothing is passed.
+pub fn next_object<'a>(source: &Lent<'a>) -> Result<Object<Lent<'a>>, Refusal>
+    ensures turn { (ps : List Piece) × (t : Meaning) × Turn (lent_at source.now) (parses parse_object) (answered lent_at result) ps t }
+    ensures insides { Insides lent_at lies_at (lies_at source.now) result }
 {
-    let mut ahead = *scanner;
-    let object = ahead.parse_object()?;
+    let object = Scanner::new(*source).parse_object()?;
     Ok(object)
 }
 
@@ -42,7 +43,7 @@ pub fn same_reading(one: Reading, other: Reading) -> bool
 }
 
 #[tactic(auto, using(number::proofs::Equal::decimals_equal))]
-pub fn same_real(a: Option<Decimal>, b: Option<Decimal>) -> bool
+pub fn same_counted(a: (Decimal, u32), b: (Decimal, u32)) -> bool
     ensures { IsTrue result ↔ (a ≡ b) }
 {
     a == b
@@ -54,8 +55,14 @@ pub fn made_again(d: Decimal) -> Option<Decimal>
     Decimal::new(d.is_negative(), d.c(), d.k())
 }
 
-pub fn twice(numbered: (Decimal, u32)) -> [(Decimal, u32); 2]
-    ensures { result ≡ (numbered ∷ numbered ∷ []) }
+pub fn decimal_twice(counted: (Decimal, u32)) -> ((Decimal, u32), (Decimal, u32))
+    ensures { result ≡ (counted, counted) }
 {
-    [numbered, numbered]
+    (counted, counted)
+}
+
+pub fn scanner_twice<'a>(scanner: Scanner<Lent<'a>>) -> (Scanner<Lent<'a>>, Scanner<Lent<'a>>)
+    ensures { result ≡ (scanner.entry, scanner.entry) }
+{
+    (scanner, scanner)
 }

@@ -25,8 +25,10 @@ pub made_again : (d : Decimal) (o : Option Decimal) (s : Bool) (c : ℕ) (k : �
 made_again d None s c k h p q r = absurd (h (search rules))
 made_again d (Some x) s c k h p q r = ap Some (search (rules, same_parts))
 
+-- `==` on two decimals
 pub decimals_equal : (a b : Decimal) → IsTrue ((decimal_eq.ghosts).eq a b) ↔ (a ≡ b)
 decimals_equal a b = search (rules, same_parts)
 
+-- and on two readings
 pub readings_equal : (a b : Reading) → IsTrue ((reading_eq.ghosts).eq a b) ↔ (a ≡ b)
 readings_equal a b = search (rules, decimals_equal)

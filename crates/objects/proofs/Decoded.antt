@@ -4,13 +4,13 @@ use Rattle.std.specs.Result.{MatchResult, IsErrAnd}
 use Rattle.definitions.specs.Decoder.{Told, decoded, turned_down, DecodesInto, DecodesHeld}
 use Rattle.definitions.specs.PlainReader.{Accepts, parse_string}
 use Rattle.definitions.specs.Sources.{Ending, clean, Meaning}
+use Rattle.number.specs.declared.decimal.Decimal.{Decimal}
 use Rattle.text.specs.Answers.{told, Answered}
 use Rattle.text.specs.declared.undecoded.Undecoded.{Undecoded}
 use Rattle.text.specs.declared.undecoded.Undecoded.TheVariants as undecoded
 use Rattle.objects.specs.Decoding.{reason_of, decoder_told}
 use Rattle.objects.specs.Objects.{kind_number, string_kind, kind_of, part_of}
 use Rattle.objects.specs.declared.error.Refusal.{Refusal}
-use Rattle.number.specs.declared.decimal.Decimal.{Decimal}
 use Rattle.objects.specs.declared.object.Object.{Object}
 use Rattle.objects.specs.declared.object.Object.TheVariants.{Integer, Real, Name, String, Array}
 use Rattle.objects.specs.declared.string.Form.{Form}

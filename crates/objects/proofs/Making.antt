@@ -4,10 +4,10 @@ use Rattle.definitions.specs.PlainReader.{Parser, parse_number, parse_name, pars
 use Rattle.definitions.specs.Grammar.{Shown}
 use Rattle.definitions.specs.Sources.{Meaning, clean}
 use Rattle.definitions.proofs.Total.{so_accepts}
+use Rattle.number.specs.declared.decimal.Decimal.{Decimal}
 use Rattle.objects.specs.Answers.{told, held, name_in, string_in, array_in, Judged}
 use Rattle.objects.specs.Objects.{kind_number, kind_of, part_of, as_handed}
 use Rattle.objects.specs.declared.error.Refusal.{Refusal}
-use Rattle.number.specs.declared.decimal.Decimal.{Decimal}
 use Rattle.objects.specs.declared.object.Object.{Object}
 use Rattle.objects.specs.declared.object.Object.TheVariants.{Integer, Real, Name, String, Array}
 use Rattle.objects.proofs.Accepted.{named, stringed, passed_by}

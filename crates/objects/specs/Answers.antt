@@ -4,6 +4,7 @@ use Rattle.std.specs.Float.{binary32}
 use Rattle.definitions.specs.Grammar.{Shown}
 use Rattle.definitions.specs.PlainReader.{Parser, parse_number, Answer, object, integer_number, real_number, refusal, handed, Judges}
 use Rattle.definitions.specs.Sources.{Meaning}
+use Rattle.number.specs.declared.decimal.Decimal.{Decimal}
 use Rattle.single.specs.declared.value.Number.{Number}
 use Rattle.single.specs.declared.value.Number.TheVariants.{Integer, Real}
 use Rattle.objects.specs.Objects.{kind_number, kind_of, part_of, value_of, as_handed}
@@ -13,7 +14,6 @@ use Rattle.objects.specs.declared.error.Reason.{Reason}
 use Rattle.objects.specs.declared.error.Reason.TheVariants.{OtherType}
 use Rattle.objects.specs.declared.error.Refusal.{Refusal}
 use Rattle.objects.specs.declared.name.Name.{Name}
-use Rattle.number.specs.declared.decimal.Decimal.{Decimal}
 use Rattle.objects.specs.declared.object.Object.{Object}
 use Rattle.objects.specs.declared.object.Object.TheVariants as case
 use Rattle.objects.specs.declared.string.String.{String}

@@ -3,9 +3,9 @@ use Rattle.std.specs.Prelude.{ℕ, Bool, true, false}
 use Rattle.definitions.specs.Grammar.{Value, none, integer_value, real_value}
 use Rattle.definitions.specs.PlainReader.{Handed}
 use Rattle.definitions.specs.Sources.{Meaning}
+use Rattle.number.specs.declared.decimal.Decimal.{Decimal}
 use Rattle.objects.specs.declared.kind.Kind.{Kind}
 use Rattle.objects.specs.declared.kind.Kind.TheVariants as kind
-use Rattle.number.specs.declared.decimal.Decimal.{Decimal}
 use Rattle.objects.specs.declared.object.Object.{Object}
 use Rattle.objects.specs.declared.object.Object.TheVariants.{Integer, Real, Name, String, Array}
 use Rattle.objects.specs.declared.part.Part.{Part}

@@ -12,12 +12,12 @@ use Rattle.definitions.proofs.Bytes.{is_false, or_left, or_right}
 use Rattle.definitions.proofs.Scan.{top}
 use Rattle.reader.specs.Addresses.{Address}
 use Rattle.reader.proofs.Moves.{moved_on}
+use Rattle.number.specs.declared.decimal.Decimal.{Decimal}
 use Rattle.syntax.specs.Skips.{Skipped}
 use Rattle.syntax.specs.declared.open.Open.{Open}
 use Rattle.objects.specs.Objects.{kind_number, string_kind, kind_of, part_of, value_of}
 use Rattle.postscript.specs.Reading.{Between, Closed, Read, behind, width_of, scan_of, StartsString}
 use Rattle.objects.specs.declared.error.Reason.{Reason}
-use Rattle.number.specs.declared.decimal.Decimal.{Decimal}
 use Rattle.objects.specs.declared.object.Object.{Object}
 use Rattle.objects.specs.declared.part.Part.{Part}
 use Rattle.objects.specs.declared.string.Form.{Form}

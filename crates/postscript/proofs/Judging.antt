@@ -4,10 +4,10 @@ use Rattle.definitions.specs.Grammar.{Shown}
 use Rattle.definitions.specs.PlainReader.{Parser, parse_object, parse_number, parses, Handed, Answer, handed, Judges, Piece, Turn}
 use Rattle.definitions.specs.Sources.{Meaning}
 use Rattle.definitions.proofs.Rejudged.{rejudged}
+use Rattle.number.specs.declared.decimal.Decimal.{Decimal}
 use Rattle.objects.specs.Answers.{answered, as_refusal, Judged}
 use Rattle.objects.specs.Objects.{kind_number, kind_of, value_of, part_of, as_handed}
 use Rattle.objects.specs.declared.error.Refusal.{Refusal}
-use Rattle.number.specs.declared.decimal.Decimal.{Decimal}
 use Rattle.objects.specs.declared.object.Object.{Object}
 
 module _ {I : Type 0} (meaning : I → Meaning) {s t : Meaning} (p : Parser) where

@@ -8,11 +8,11 @@ use Rattle.definitions.specs.Sources.{Meaning}
 use Rattle.definitions.proofs.OutcomeTotal.{comes}
 use Rattle.definitions.proofs.Turns.{begun, was_refused}
 use Rattle.reader.specs.Addresses.{Address}
+use Rattle.number.specs.declared.decimal.Decimal.{Decimal}
 use Rattle.postscript.specs.Reading.{Came, Read}
 use Rattle.objects.specs.Answers.{answered}
 use Rattle.objects.specs.declared.error.Reason.{Reason}
 use Rattle.objects.specs.declared.error.Refusal.{Refusal}
-use Rattle.number.specs.declared.decimal.Decimal.{Decimal}
 use Rattle.objects.specs.declared.object.Object.{Object}
 
 other : parse_object ≡ parse_number → ⊥

@@ -13,10 +13,10 @@ use Rattle.definitions.proofs.Bytes.{front_all, past_outside, front_past, is_tru
 use Rattle.definitions.proofs.OutcomeOnce.{run_is}
 use Rattle.definitions.proofs.ReadsOnce.{reading_is}
 use Rattle.reader.specs.Addresses.{Address}
+use Rattle.number.specs.declared.decimal.Decimal.{Decimal}
 use Rattle.objects.specs.Objects.{kind_number, name_kind, kind_of, part_of, value_of}
 use Rattle.postscript.specs.Reading.{Came, Between, RunEnds, behind, StartsRun, StartsNoNumber, StartsName, slash_of, Read}
 use Rattle.objects.specs.declared.error.Reason.TheVariants.{PastLimits}
-use Rattle.number.specs.declared.decimal.Decimal.{Decimal}
 use Rattle.objects.specs.declared.object.Object.{Object}
 use Rattle.objects.specs.declared.object.Object.TheVariants.{Name}
 use Rattle.objects.specs.declared.part.Part.{Part}

@@ -7,6 +7,7 @@ use Rattle.definitions.specs.PlainReader.{carried, after}
 use Rattle.definitions.specs.SharedRun.{opener_length}
 use Rattle.definitions.specs.Sources.{Meaning, Ending, clean, fault, if_there, window}
 use Rattle.reader.specs.Addresses.{Address, further}
+use Rattle.number.specs.declared.decimal.Decimal.{Decimal}
 use Rattle.syntax.specs.Skips.{found, Spent}
 use Rattle.syntax.specs.declared.open.Open.{Open}
 use Rattle.syntax.specs.declared.open.Open.TheVariants.{RanOut, LacksClose}
@@ -15,7 +16,6 @@ use Rattle.postscript.specs.Reading.{Came, Between, OpenReason, AtEnd, Read}
 use Rattle.objects.specs.Refusals.{number_of, fault_of}
 use Rattle.objects.specs.declared.error.Reason.{Reason}
 use Rattle.objects.specs.declared.error.Reason.TheVariants.{Unclosed}
-use Rattle.number.specs.declared.decimal.Decimal.{Decimal}
 use Rattle.objects.specs.declared.object.Object.{Object}
 
 -- a list without its last byte, cut before

@@ -10,13 +10,13 @@ use Rattle.definitions.specs.Scan.{Found, text, hex, ascii85}
 use Rattle.definitions.specs.SharedRun.{opener_length}
 use Rattle.definitions.specs.Sources.{Meaning, Ending, clean, fault, window}
 use Rattle.reader.specs.Addresses.{Address, further}
+use Rattle.number.specs.declared.decimal.Decimal.{Decimal}
 use Rattle.syntax.specs.declared.open.Open.{Open}
 use Rattle.syntax.specs.declared.open.Open.TheVariants.{RanOut, LacksClose}
 use Rattle.objects.specs.Objects.{part_of, as_handed}
 use Rattle.objects.specs.Refusals.{number_of, fault_of}
 use Rattle.objects.specs.declared.error.Reason.{Reason}
 use Rattle.objects.specs.declared.error.Reason.TheVariants.{Unclosed, Fault}
-use Rattle.number.specs.declared.decimal.Decimal.{Decimal}
 use Rattle.objects.specs.declared.object.Object.{Object}
 use Rattle.objects.specs.declared.part.Part.{Part}
 use Rattle.objects.specs.declared.string.Form.{Form}
